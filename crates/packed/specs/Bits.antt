@@ -1,0 +1,16 @@
+-- Packed fields: bytes as one number, and the fields of bits within it, most significant bit first.
+use mathlib.Core.List.{List, [], _∷_}
+use Prim.Native.Nat.{ℕ, _+_, _-_, _*_, _/_, _%_, _^_}
+
+-- n with the bytes written behind it
+abbrev pub whole-from : ℕ → List ℕ → ℕ
+whole-from n [] = n
+whole-from n (b ∷ bs) = whole-from (n * 256 + b) bs
+
+-- the bytes as one number, the first byte most significant
+abbrev pub whole : List ℕ → ℕ
+whole xs = whole-from 0 xs
+
+-- the `width` bits that begin behind the first `at` bits of the number n, which has `total` bits
+abbrev pub field : ℕ → ℕ → ℕ → ℕ → ℕ
+field total at width n = n / 2 ^ (total - (at + width)) % 2 ^ width
