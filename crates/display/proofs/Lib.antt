@@ -1,0 +1,4 @@
+mod Copied
+mod Lifted
+mod Taped
+pub mod Shown
