@@ -5,17 +5,17 @@ ghost use Rattle.display.specs.Layering.{up, edge-over, lag-over};
 ghost use Rattle.display.specs.Meaning.{Meaning};
 ghost use Rattle.std.specs.declared.option.Option.the-variants.{Some};
 use crate::Display;
-use crate::layers::Edge;
-use crate::layers::EdgeDisplay;
-use crate::layers::Lag;
-use crate::layers::LagDisplay;
+use crate::edges::Edge;
+use crate::edges::EdgeDisplay;
+use crate::lags::Lag;
+use crate::lags::LagDisplay;
 use crate::panels::Panel;
 use crate::panels::PanelDisplay;
 use crate::settings::Delay;
 use crate::settings::Period;
 
 fn period_16() -> Period
-    ensures { λ r. ⌜ r .value ≡ 16 ⌝ }
+    ensures { λ r. ⌜ r .apart ≡ 16 ⌝ }
 {
     match Period::new(16) {
         Ok(p) => p,
@@ -24,7 +24,7 @@ fn period_16() -> Period
 }
 
 fn delay_10() -> Delay
-    ensures { λ r. ⌜ r .value ≡ 10 ⌝ }
+    ensures { λ r. ⌜ r .late ≡ 10 ⌝ }
 {
     match Delay::new(10) {
         Ok(d) => d,

@@ -4,11 +4,14 @@ ghost use Rattle.display.specs.Meaning.{Meaning, Keeps, Shows, Settles, number
 
 pub mod cards;
 mod copying;
+pub mod edges;
 pub mod figures;
 pub mod films;
-pub mod layers;
+pub mod lags;
 pub mod panels;
 pub mod settings;
+#[cfg(test)]
+mod tests;
 
 use cards::CardNumbers;
 use refusal::Fault;
@@ -17,6 +20,9 @@ use refusal::causes::Layer;
 
 // The highest moment that a display with no lag takes: 44 bits of ones.
 const LAST_MOMENT: u64 = 17_592_186_044_415;
+
+// The lag that no pile of layers passes.
+const MOST_LAG: u64 = 10_000;
 
 // The largest frame of any display.
 const LARGEST_FRAME: usize = 65_536;

@@ -16,50 +16,50 @@ const OUT_OF_RANGE: Fault = Fault {
 // The time between two frame edges: 1 to 1,000 milliseconds.
 #[derive(Clone, Copy)]
 pub struct Period {
-    value: u64,
-    ghost low: { 1 ≤ value },
-    ghost high: { value ≤ 1000 },
+    apart: u64,
+    ghost low: { 1 ≤ apart },
+    ghost high: { apart ≤ 1000 },
 }
 
 impl Period {
     pub fn new(value: u64) -> Result<Period, Fault>
-        ensures { λ r. ⌜ Cases r (λ p. p .value ≡ value) (λ e. ((1 ≤ value) × (value ≤ 1000) → ⊥) × (e ≡ setting-fault)) ⌝ }
+        ensures { λ r. ⌜ Cases r (λ p. p .apart ≡ value) (λ e. ((1 ≤ value) × (value ≤ 1000) → ⊥) × (e ≡ setting-fault)) ⌝ }
     {
         if value == 0 || value > 1000 {
             return Err(OUT_OF_RANGE);
         }
-        Ok(Period { value })
+        Ok(Period { apart: value })
     }
 
     // The period in milliseconds.
     pub fn value(&self) -> u64
-        ensures { λ r. ⌜ (r ≡ now (self .entry) .value) × (1 ≤ r) × (r ≤ 1000) ⌝ }
+        ensures { λ r. ⌜ (r ≡ now (self .entry) .apart) × (1 ≤ r) × (r ≤ 1000) ⌝ }
     {
-        self.value
+        self.apart
     }
 }
 
 // The time that a cable takes: 0 to 1,000 milliseconds.
 #[derive(Clone, Copy)]
 pub struct Delay {
-    value: u64,
-    ghost high: { value ≤ 1000 },
+    late: u64,
+    ghost high: { late ≤ 1000 },
 }
 
 impl Delay {
     pub fn new(value: u64) -> Result<Delay, Fault>
-        ensures { λ r. ⌜ Cases r (λ d. d .value ≡ value) (λ e. (1000 < value) × (e ≡ setting-fault)) ⌝ }
+        ensures { λ r. ⌜ Cases r (λ d. d .late ≡ value) (λ e. (1000 < value) × (e ≡ setting-fault)) ⌝ }
     {
         if value > 1000 {
             return Err(OUT_OF_RANGE);
         }
-        Ok(Delay { value })
+        Ok(Delay { late: value })
     }
 
     // The delay in milliseconds.
     pub fn value(&self) -> u64
-        ensures { λ r. ⌜ (r ≡ now (self .entry) .value) × (r ≤ 1000) ⌝ }
+        ensures { λ r. ⌜ (r ≡ now (self .entry) .late) × (r ≤ 1000) ⌝ }
     {
-        self.value
+        self.late
     }
 }

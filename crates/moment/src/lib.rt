@@ -6,6 +6,8 @@ ghost use Rattle.moment.specs.Days.{join-of, split-of, Joined};
 ghost use Rattle.moment.specs.Field.{time-of, short-time, long-time, moment-at};
 
 pub mod figures;
+#[cfg(test)]
+mod tests;
 pub mod times;
 
 use packed::number;
