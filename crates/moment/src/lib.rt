@@ -47,13 +47,7 @@ fn short(word: u64) -> Result<Time, Fault>
     if word / 0x800 % 2 != 0 {
         return Err(BAD_TIME);
     }
-    moment_at(
-        word / 0x4000 % 0x2_0000,
-        word / 64 % 32,
-        word % 64,
-        0,
-        0,
-    )
+    moment_at(word / 0x4000 % 0x2_0000, word / 64 % 32, word % 64, 0, 0)
 }
 
 // A time field of 48 bits.

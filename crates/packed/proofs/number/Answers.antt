@@ -33,8 +33,7 @@ loop-b-again c =
     let xs = c .args .bytes .now in
     let i = c .loop-b .b-index in
     let n = c .loop-b .n in
-    let step : whole-from n (drop i xs) ≡ whole-from (n * 256 + getD xs i 0) (drop (i + 1) xs) = at-drop-more (whole-from n) xs i 0 (c .loop-b-test .taken) in
-    (
+    let step : whole-from n (drop i xs) ≡ whole-from (n * 256 + getD xs i 0) (drop (i + 1) xs) = at-drop-more (whole-from n) xs i 0 (c .loop-b-test .taken) in (
       ap (λ (b : ℕ). whole-from (n * 256 + b) (drop (i + 1) xs)) (c .from .ensures) ∙ sym step ∙ c .loop-b .inv .0,
       wider n (c .from .result) i (c .loop-b .inv .1) (omega (arith, c .typed .bytes i)),
     )
