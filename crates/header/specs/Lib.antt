@@ -1,0 +1,4 @@
+pub mod Cores
+pub mod Params
+pub mod Finds
+pub mod Headers
