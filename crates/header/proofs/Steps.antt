@@ -40,7 +40,7 @@ ahead [] = tt
 ahead (h ∷ xs) = chosen (ltb (mark-in h) 3) _ _ (omega arith) (long-ahead xs)
 
 -- what a test lets through
-passed : (b : Bool) (q p : Part) → cond b (Some q) None ≡ Some p → (b ≡ true) × (q ≡ p)
+pub passed : (b : Bool) (q p : Part) → cond b (Some q) None ≡ Some p → (b ≡ true) × (q ≡ p)
 passed true q p e = (refl, cc)
 passed false q p e = let z : _≡_ {A = ℕ} 0 1 = cc in absurd (omega arith)
 
@@ -55,11 +55,11 @@ pub shorter : (xs : List ℕ) (p : Part) → first-of xs ≡ Some p → length (
 shorter xs p e = shorter-within xs (extent-of xs) p (ahead xs) e
 
 -- two ways to go on that agree on what was read
-then-same : {T U : Type 0} (r : Result T Fault) (f g : T → Result U Fault) → ((x : T) → r ≡ Ok x → f x ≡ g x) → and-then r f ≡ and-then r g
+pub then-same : {T U : Type 0} (r : Result T Fault) (f g : T → Result U Fault) → ((x : T) → r ≡ Ok x → f x ≡ g x) → and-then r f ≡ and-then r g
 then-same (Ok x) f g h = h x refl
 then-same (Err e) f g h = refl
 
-found-part : (i : ℕ) (o : Option Part) (p : Part) → okOr o (refusal-at ParameterPastEnd i) ≡ Ok p → o ≡ Some p
+pub found-part : (i : ℕ) (o : Option Part) (p : Part) → okOr o (refusal-at ParameterPastEnd i) ≡ Ok p → o ≡ Some p
 found-part i None p e = let z : _≡_ {A = ℕ} 0 1 = cc in absurd (omega arith)
 found-part i (Some q) p e = cc
 

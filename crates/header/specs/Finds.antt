@@ -53,9 +53,13 @@ pub record FoundRecord : Type 0 where
   pub name : Option NameRecord
   pub category : Option Category
 
+-- the same refusal at place i
+abbrev pub moved-to : ℕ → Fault → Fault
+moved-to i e = record { cause = e .cause; layer = e .layer; place = i }
+
 -- a time field's refusal gets the parameter's place
 abbrev pub time-at : ℕ → List ℕ → Result Time Fault
-time-at i xs = results.mapped (λ t. t) (λ e. record { cause = e .cause; layer = e .layer; place = i }) (time-of xs)
+time-at i xs = results.mapped (λ t. t) (moved-to i) (time-of xs)
 
 -- a version number is one byte
 abbrev pub version-at : ℕ → List ℕ → Result ℕ Fault

@@ -71,10 +71,15 @@ abbrev pub effective : Kind → FoundRecord → Bool
 effective Image f = true
 effective Update f = isSome (f .trigger) || isSome (f .category)
 
+-- the values of a header of that kind and name
+abbrev pub header-with : Core → Kind → NameRecord → FoundRecord → HeaderRecord
+header-with c k n f =
+    record { kind = k; body-size = c .«body_size»; header-size = c .«header_size»; content-type = c .«content_type»; subtype = c .subtype; name = n; version = f .version; expire = f .expire; trigger = f .trigger; category = f .category }
+
 -- a header is complete with its name, an update also with what it changes
 abbrev pub completed : Core → Kind → FoundRecord → Result HeaderRecord Fault
 completed c k f =
-    and-then (okOr (f .name) (refusal-at NameMissing 0)) (λ n. and-then (demand (effective k f) UpdateWithoutEffect) (λ u. Ok (record { kind = k; body-size = c .«body_size»; header-size = c .«header_size»; content-type = c .«content_type»; subtype = c .subtype; name = n; version = f .version; expire = f .expire; trigger = f .trigger; category = f .category })))
+    and-then (okOr (f .name) (refusal-at NameMissing 0)) (λ n. and-then (demand (effective k f) UpdateWithoutEffect) (λ u. Ok (header-with c k n f)))
 
 -- what a core says with the parameters behind it, in a header of that size
 abbrev pub read-with : Core → ℕ → List ℕ → ℕ → Result HeaderRecord Fault

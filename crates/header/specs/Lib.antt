@@ -2,3 +2,4 @@ pub mod Cores
 pub mod Params
 pub mod Finds
 pub mod Headers
+pub mod Written

@@ -4,6 +4,7 @@ ghost use Prim.Native.Nat.{_+_, _<_};
 ghost use lib.ListN.{length};
 ghost use Rattle.header.specs.Finds.{found-of};
 ghost use Rattle.header.specs.Headers.{params-of, seen-found, completed, seen, read-with, header-of};
+ghost use Rattle.header.specs.Written.{Header-law};
 
 mod cores;
 mod finds;
@@ -99,7 +100,8 @@ fn read_with<'a>(
 
 // What the bytes say as a header, for slots of that size.
 pub fn read_header<'a>(bytes: &'a [u8], slot_size: u32) -> Result<Header<'a>, Fault>
-    ensures { λ r. ⌜ seen r ≡ header-of (now (bytes .entry)) «slot_size» ⌝ }
+    ensures value { λ r. ⌜ seen r ≡ header-of (now (bytes .entry)) «slot_size» ⌝ }
+    ensures law { λ r. ⌜ Header-law (now (bytes .entry)) «slot_size» (seen r) ⌝ }
 {
     let [b0, b1, b2, b3, b4, b5, b6, extension @ ..] = bytes else {
         return Err(refused(Cause::HeaderCut, 0));
