@@ -1,0 +1,5 @@
+pub mod Cores
+pub mod Params
+pub mod Finds
+pub mod Headers
+pub mod Written
