@@ -1,0 +1,4 @@
+// Shelves. A shelf is our word for a list of entries ascending by key, equal keys in order of arrival,
+// kept at the front of lent entries: a slice, and how many of its entries are used.
+pub mod entries;
+pub mod questions;
