@@ -3,7 +3,7 @@ use native.Mathlib.Omega.{arith}
 use Rattle.std.specs.Orderings.{isGt}
 use Rattle.shelf.specs.Places.{above}
 use Rattle.shelf.proofs.Steps.{place-stop, place-more, place-all}
-use Rattle.shelf.proofs.questions.place.Needs as need
+use Rattle.shelf.proofs.walks.place.Needs as need
 
 pub returns-then-is-gt : need.returns-then-is-gt
 returns-then-is-gt g c = record {

@@ -3,7 +3,7 @@ use native.Mathlib.Omega.{arith}
 use Rattle.std.proofs.shelf.Tests.{eq-eqb, ne-eqb}
 use Rattle.shelf.specs.Places.{carries}
 use Rattle.shelf.proofs.Steps.{place-stop, place-more, place-all}
-use Rattle.shelf.proofs.questions.place_of_load.Needs as need
+use Rattle.shelf.proofs.walks.place_of_load.Needs as need
 
 pub returns-then-entry-load : need.returns-then-entry-load
 returns-then-entry-load g c =

@@ -3,7 +3,7 @@ use Prim.Native.Nat.{_+_}
 use lib.ListN.{drop}
 use Rattle.std.specs.Keys.{Total}
 use Rattle.shelf.specs.Places.{place-of}
-use Rattle.shelf.proofs.questions.place.Given as given
+use Rattle.shelf.proofs.walks.place.Given as given
 
 -- the place lies as far behind the entries passed as it lies in what is left
 abbrev pub Inv-loop-i : given.InvT-loop-i

@@ -1,0 +1,35 @@
+use mathlib.Core.Path.{_≡_, refl, sym, ap, subst, _∙_}
+use Prim.Native.Nat.{ℕ, _<_, _≤_}
+use native.Mathlib.Omega.{arith}
+use lib.ListN.{length, take}
+use Rattle.std.specs.Holes.{removed}
+use Rattle.shelf.specs.Places.{carries, place-of-load, without, Ascending}
+use Rattle.shelf.specs.Searches.{Lost}
+use Rattle.shelf.proofs.Firsts.{removed-first, lost}
+use Rattle.shelf.proofs.Ordered.{ascending-without}
+use Rattle.shelf.proofs.Steps.{none-past, some-within}
+use Rattle.shelf.proofs.changes.remove.Needs as need
+
+pub returns-then-at-count : need.returns-then-at-count
+returns-then-at-count g c =
+    let xs = take (c .args .used) (c .args .entries .now) in
+    let place = rw (c .listed .ensures) at (c .place-of-load-at .ensures .value) in
+    let past : length xs ≤ place-of-load (c .args .load) xs = omega (arith, place) in
+    record { answer = (none-past (carries (c .args .load)) xs past, refl); list = tt; rest = refl; len = refl; order = tt; law = tt }
+
+pub returns : need.returns
+returns g c =
+    let xs = take (c .args .used) (c .args .entries .now) in
+    let test = carries (c .args .load) in
+    let place = rw (c .listed .ensures) at (c .place-of-load-at .ensures .value) in
+    let within : place-of-load (c .args .load) xs < length xs = omega (arith, place) in
+    let some = some-within test xs within in
+    let list = c .lift .ensures .list ∙ ap (λ (i : ℕ). removed xs i) place ∙ removed-first test xs in
+    record {
+      answer = (some, c .lift .ensures .count);
+      list = list;
+      rest = c .lift .ensures .rest;
+      len = c .lift .ensures .len;
+      order = λ cmp up. subst (Ascending cmp) (sym list) (ascending-without cmp test xs up);
+      law = subst (Lost test xs) (sym list) (lost test xs some);
+    }
