@@ -1,3 +1,4 @@
 pub mod Searches
 pub mod Places
 pub mod Laws
+pub mod Kinds

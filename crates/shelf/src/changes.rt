@@ -26,11 +26,11 @@ use crate::walks::place_of_load;
 // Where all entries are used it is handed back, and nothing is changed.
 pub fn insert<K: Ord + Copy>(entries: &mut [Entry<K>], used: usize, entry: Entry<K>) -> Result<usize, Entry<K>>
     ensures answer { λ r. ⌜ ByOk r (λ n. (used < length (now (entries .entry))) × (n ≡ used + 1)) (λ back. (length (now (entries .entry)) ≤ used) × (back ≡ entry) × (now (entries .exit) ≡ now (entries .entry))) ⌝ }
-    ensures list { λ r. ⌜ made r (λ n. (o : Total (K·Ord .orders)) → take n (now (entries .exit)) ≡ shelved (o .cmp) entry (take used (now (entries .entry)))) ⌝ }
+    ensures list { λ r. ⌜ ((o : Total (K·Ord .orders)) → made r (λ n. take n (now (entries .exit)) ≡ shelved (o .cmp) entry (take used (now (entries .entry))))) ⌝ }
     ensures rest { λ _. ⌜ drop (used + 1) (now (entries .exit)) ≡ drop (used + 1) (now (entries .entry)) ⌝ }
     ensures len { λ _. ⌜ length (now (entries .exit)) ≡ length (now (entries .entry)) ⌝ }
-    ensures order { λ r. ⌜ made r (λ n. (o : Total (K·Ord .orders)) → Ascending (o .cmp) (take used (now (entries .entry))) → Ascending (o .cmp) (take n (now (entries .exit)))) ⌝ }
-    ensures law { λ r. ⌜ made r (λ n. (o : Total (K·Ord .orders)) → Ascending (o .cmp) (take used (now (entries .entry))) → Arrived (o .cmp) entry (take used (now (entries .entry))) (take n (now (entries .exit)))) ⌝ }
+    ensures order { λ r. ⌜ ((o : Total (K·Ord .orders)) → Ascending (o .cmp) (take used (now (entries .entry))) → made r (λ n. Ascending (o .cmp) (take n (now (entries .exit))))) ⌝ }
+    ensures law { λ r. ⌜ ((o : Total (K·Ord .orders)) → Ascending (o .cmp) (take used (now (entries .entry))) → made r (λ n. Arrived (o .cmp) entry (take used (now (entries .entry))) (take n (now (entries .exit))))) ⌝ }
 {
     if used >= entries.len() {
         return Err(entry);

@@ -2,5 +2,6 @@
 // kept at the front of lent entries: a slice, and how many of its entries are used.
 pub mod changes;
 pub mod entries;
+pub mod kinds;
 pub mod questions;
 pub(crate) mod walks;
