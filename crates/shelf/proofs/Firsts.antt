@@ -42,8 +42,8 @@ module _ {X : Type 0} (test : X → Bool) where
       cond-both (test x) xs (x ∷ without-that test xs) (Lost test (x ∷ xs))
       (λ e. record { item = x; at = at-once x xs e; left = refl })
       (λ e.
-        let l = lost xs (sym (ap isSome (cond-false (test x) (Some x) (first-that test xs) e)) ∙ h) in
-        record { item = l .item; at = later x e (l .at); left = ap (λ (ys : List X). x ∷ ys) (l .left) })
+      let l = lost xs (sym (ap isSome (cond-false (test x) (Some x) (first-that test xs) e)) ∙ h) in
+      record { item = l .item; at = later x e (l .at); left = ap (λ (ys : List X). x ∷ ys) (l .left) })
 
   -- without the first, nothing is gained
   pub all-without : (P : X → Type 0) (xs : List X) → All P xs → All P (without-that test xs)

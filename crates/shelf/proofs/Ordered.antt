@@ -88,8 +88,8 @@ module _ {K : Type 0} {R : K → K → Ordering → Type 0} (o : Total R) where
   ascending-shelved e (x ∷ xs) up =
       cond-both (above (o .cmp) (e .key) x) (e ∷ x ∷ xs) (x ∷ shelved (o .cmp) e xs) (Ascending (o .cmp))
       (λ t.
-        let le = above-one-way (x .key) (e .key) t in
-        ((le, all-weaker (λ y. above (o .cmp) (y .key) x ≡ false) (λ y. above (o .cmp) (y .key) e ≡ false) (λ y. not-above-chain (e .key) (x .key) (y .key) le) xs (up .0)), up))
+      let le = above-one-way (x .key) (e .key) t in
+      ((le, all-weaker (λ y. above (o .cmp) (y .key) x ≡ false) (λ y. above (o .cmp) (y .key) e ≡ false) (λ y. not-above-chain (e .key) (x .key) (y .key) le) xs (up .0)), up))
       (λ t. (all-shelved (o .cmp) (λ y. above (o .cmp) (y .key) x ≡ false) e xs t (up .0), ascending-shelved e xs (up .1)))
 
   -- where it stands then
@@ -99,15 +99,15 @@ module _ {K : Type 0} {R : K → K → Ordering → Type 0} (o : Total R) where
       cond-both (above (o .cmp) (e .key) x) (e ∷ x ∷ xs) (x ∷ shelved (o .cmp) e xs) (Arrived (o .cmp) e (x ∷ xs))
       (λ t. record { front = []; back = x ∷ xs; before = refl; after = refl; not-above = tt; all-above = all-above (e .key) x xs t up })
       (λ t.
-        let r = arrived e xs (up .1) in
-        record {
-          front = x ∷ r .front;
-          back = r .back;
-          before = ap (λ (l : List (Entry K)). x ∷ l) (r .before);
-          after = ap (λ (l : List (Entry K)). x ∷ l) (r .after);
-          not-above = (t, r .not-above);
-          all-above = r .all-above;
-        })
+      let r = arrived e xs (up .1) in
+      record {
+        front = x ∷ r .front;
+        back = r .back;
+        before = ap (λ (l : List (Entry K)). x ∷ l) (r .before);
+        after = ap (λ (l : List (Entry K)). x ∷ l) (r .after);
+        not-above = (t, r .not-above);
+        all-above = r .all-above;
+      })
 
   -- how far a key reaches
   pub reach : (k : K) (xs : List (Entry K)) → Ascending (o .cmp) xs → Reach (o .cmp) k xs (place-of (o .cmp) k xs)
@@ -116,8 +116,8 @@ module _ {K : Type 0} {R : K → K → Ordering → Type 0} (o : Total R) where
       cond-both (above (o .cmp) k x) 0 (suc (place-of (o .cmp) k xs)) (Reach (o .cmp) k (x ∷ xs))
       (λ t. record { within = omega arith; reached = tt; beyond = all-above k x xs t up })
       (λ t.
-        let r = reach k xs (up .1) in
-        record { within = omega (arith, r .within); reached = (t, r .reached); beyond = r .beyond })
+      let r = reach k xs (up .1) in
+      record { within = omega (arith, r .within); reached = (t, r .reached); beyond = r .beyond })
 
   next-further : (k : K) (x : Entry K) (xs : List (Entry K)) (r : Option (Entry K)) → above (o .cmp) k x ≡ false → Next (o .cmp) k xs r → Next (o .cmp) k (x ∷ xs) r
   next-further k x xs None t h = (t, h)
@@ -128,12 +128,11 @@ module _ {K : Type 0} {R : K → K → Ordering → Type 0} (o : Total R) where
   next k [] up = tt
   next k (x ∷ xs) up =
       cond-both (above (o .cmp) k x) (Some x) (first-above (o .cmp) k xs) (Next (o .cmp) k (x ∷ xs))
-      (λ t.
+      (λ t. (
+        at-once (above (o .cmp) k) x xs t,
         (
-          at-once (above (o .cmp) k) x xs t,
-          (
-            λ _. not-above-itself (x .key),
-            all-weaker (λ y. above (o .cmp) (y .key) x ≡ false) (λ y. above (o .cmp) k y ≡ true → above (o .cmp) (y .key) x ≡ false) (λ y le _. le) xs (up .0),
-          ),
-        ))
+          λ _. not-above-itself (x .key),
+          all-weaker (λ y. above (o .cmp) (y .key) x ≡ false) (λ y. above (o .cmp) k y ≡ true → above (o .cmp) (y .key) x ≡ false) (λ y le _. le) xs (up .0),
+        ),
+      ))
       (λ t. next-further k x xs (first-above (o .cmp) k xs) t (next k xs (up .1)))

@@ -1,7 +1,7 @@
 -- What holds of a shelf's list, in the words of its order.
 use mathlib.Core.Path.{_≡_}
 use mathlib.Core.Bool.{true, false}
-use mathlib.Core.List.{List, _∷_, _++_}
+use mathlib.Core.List.{List, [], _∷_, _++_}
 use Prim.Native.Nat.{ℕ, _≤_}
 use lib.ListN.{length, take, drop}
 use Rattle.std.specs.declared.cmp.Ordering.{Ordering}
@@ -9,8 +9,14 @@ use Rattle.std.specs.declared.option.Option.{Option}
 use Rattle.std.specs.declared.option.Option.the-variants.{Some, None}
 use Rattle.std.specs.shelf.Lists.{All}
 use Rattle.shelf.specs.declared.entries.Entry.{Entry}
-use Rattle.shelf.specs.Places.{above}
+use Rattle.shelf.specs.Places.{above, found}
 use Rattle.shelf.specs.Searches.{FirstAt}
+
+module _ {K : Type 0} where
+  -- no two entries carry one load
+  abbrev pub Apart : List (Entry K) → Type 0
+  Apart [] = Unit {0}
+  Apart (x ∷ xs) = (found (x .load) xs ≡ None) × Apart xs
 
 module _ {K : Type 0} (cmp : K → K → Ordering) where
   -- all entries are above the key, or none is

@@ -24,7 +24,11 @@ use crate::walks::place_of_load;
 
 // Puts an entry behind every entry that is not above it, and answers how many are used now.
 // Where all entries are used it is handed back, and nothing is changed.
-pub fn insert<K: Ord + Copy>(entries: &mut [Entry<K>], used: usize, entry: Entry<K>) -> Result<usize, Entry<K>>
+pub fn insert<K: Ord + Copy>(
+    entries: &mut [Entry<K>],
+    used: usize,
+    entry: Entry<K>,
+) -> Result<usize, Entry<K>>
     ensures answer { λ r. ⌜ ByOk r (λ n. (used < length (now (entries .entry))) × (n ≡ used + 1)) (λ back. (length (now (entries .entry)) ≤ used) × (back ≡ entry) × (now (entries .exit) ≡ now (entries .entry))) ⌝ }
     ensures list { λ r. ⌜ ((o : Total (K·Ord .orders)) → made r (λ n. take n (now (entries .exit)) ≡ shelved (o .cmp) entry (take used (now (entries .entry))))) ⌝ }
     ensures rest { λ _. ⌜ drop (used + 1) (now (entries .exit)) ≡ drop (used + 1) (now (entries .entry)) ⌝ }

@@ -11,7 +11,12 @@ use crate::entries::Entry;
 
 // Lets a slot wait for a moment, behind all that wait for that moment or an earlier one.
 // Where all entries are used, the entry comes back and nothing is changed.
-pub fn wait(entries: &mut [Entry<u64>], used: usize, moment: u64, slot: u32) -> Result<usize, Entry<u64>>
+pub fn wait(
+    entries: &mut [Entry<u64>],
+    used: usize,
+    moment: u64,
+    slot: u32,
+) -> Result<usize, Entry<u64>>
     ensures answer { λ r. ⌜ ByOk r (λ n. (used < length (now (entries .entry))) × (n ≡ used + 1)) (λ back. (length (now (entries .entry)) ≤ used) × (back ≡ record { key = moment; load = slot }) × (now (entries .exit) ≡ now (entries .entry))) ⌝ }
     ensures list { λ r. ⌜ made r (λ n. take n (now (entries .exit)) ≡ shelved by-moment (record { key = moment; load = slot }) (take used (now (entries .entry)))) ⌝ }
     ensures rest { λ _. ⌜ drop (used + 1) (now (entries .exit)) ≡ drop (used + 1) (now (entries .entry)) ⌝ }
@@ -24,7 +29,12 @@ pub fn wait(entries: &mut [Entry<u64>], used: usize, moment: u64, slot: u32) -> 
 
 // Files a slide under its category place: by category, then by slide.
 // Where all entries are used, the entry comes back and nothing is changed.
-pub fn file(entries: &mut [Entry<(u8, u8)>], used: usize, place: (u8, u8), accession: u32) -> Result<usize, Entry<(u8, u8)>>
+pub fn file(
+    entries: &mut [Entry<(u8, u8)>],
+    used: usize,
+    place: (u8, u8),
+    accession: u32,
+) -> Result<usize, Entry<(u8, u8)>>
     ensures answer { λ r. ⌜ ByOk r (λ n. (used < length (now (entries .entry))) × (n ≡ used + 1)) (λ back. (length (now (entries .entry)) ≤ used) × (back ≡ record { key = place; load = accession }) × (now (entries .exit) ≡ now (entries .entry))) ⌝ }
     ensures list { λ r. ⌜ made r (λ n. take n (now (entries .exit)) ≡ shelved by-place (record { key = place; load = accession }) (take used (now (entries .entry)))) ⌝ }
     ensures rest { λ _. ⌜ drop (used + 1) (now (entries .exit)) ≡ drop (used + 1) (now (entries .entry)) ⌝ }

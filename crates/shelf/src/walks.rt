@@ -11,14 +11,22 @@ use crate::entries::Entry;
 pub(crate) fn listed<K: Copy>(entries: &[Entry<K>], used: usize) -> &[Entry<K>]
     ensures { λ r. ⌜ now r ≡ take used (now (entries .entry)) ⌝ }
 {
-    if used < entries.len() { &entries[0..used] } else { entries }
+    if used < entries.len() {
+        &entries[0..used]
+    } else {
+        entries
+    }
 }
 
 // The entry at a place of the list, or none past its end.
 pub(crate) fn entry_at<K: Copy>(list: &[Entry<K>], place: usize) -> Option<Entry<K>>
     ensures { λ r. ⌜ r ≡ nth (now (list .entry)) place ⌝ }
 {
-    if place < list.len() { Some(list[place]) } else { None }
+    if place < list.len() {
+        Some(list[place])
+    } else {
+        None
+    }
 }
 
 // The place of the first entry of the list that is above the key, or the list's length.

@@ -1,7 +1,7 @@
 use mathlib.Core.Path.{_≡_, refl, sym, ap, subst, _∙_}
 use Prim.Native.Nat.{ℕ, _<_, _≤_}
 use native.Mathlib.Omega.{arith}
-use lib.ListN.{length, take}
+use lib.ListN.{length, take, drop}
 use Rattle.std.specs.Holes.{removed}
 use Rattle.shelf.specs.Places.{carries, place-of-load, without, Ascending}
 use Rattle.shelf.specs.Searches.{Lost}
@@ -15,14 +15,21 @@ returns-then-at-count g c =
     let xs = take (c .args .used) (c .args .entries .now) in
     let place = rw (c .listed .ensures) at (c .place-of-load-at .ensures .value) in
     let past : length xs ≤ place-of-load (c .args .load) xs = omega (arith, place) in
-    record { answer = (none-past (carries (c .args .load)) xs past, refl); list = tt; rest = refl; len = refl; order = tt; law = tt }
+    record {
+      answer = (none-past (carries (c .args .load)) xs past, refl {a = c .args .entries .now});
+      list = tt;
+      rest = refl {a = drop (c .args .used) (c .args .entries .now)};
+      len = refl {a = length (c .args .entries .now)};
+      order = tt;
+      law = tt;
+    }
 
 pub returns : need.returns
 returns g c =
     let xs = take (c .args .used) (c .args .entries .now) in
-    let test = carries (c .args .load) in
     let place = rw (c .listed .ensures) at (c .place-of-load-at .ensures .value) in
     let within : place-of-load (c .args .load) xs < length xs = omega (arith, place) in
+    let test = carries (c .args .load) in
     let some = some-within test xs within in
     let list = c .lift .ensures .list ∙ ap (λ (i : ℕ). removed xs i) place ∙ removed-first test xs in
     record {

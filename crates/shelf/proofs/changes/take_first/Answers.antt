@@ -1,6 +1,6 @@
 use mathlib.Core.Path.{_≡_, refl, sym, ap, _∙_}
 use native.Mathlib.Omega.{arith}
-use lib.ListN.{length, take}
+use lib.ListN.{length, take, drop}
 use Rattle.std.specs.Finite.{nth}
 use Rattle.std.specs.declared.option.Option.the-variants.{Some, None}
 use Rattle.shelf.proofs.Counted.{nil-from-nth, cons-from-nth}
@@ -10,9 +10,9 @@ pub returns-in-Break-first : need.returns-in-Break-first
 returns-in-Break-first g c =
     let is = rw (c .listed .ensures) at (c .entry-at .ensures) in
     rw (c .from-residual .ensures) record {
-      answer = (nil-from-nth (take (c .args .used) (c .args .entries .now)) (sym is ∙ c .in-Break-first .was tt), refl);
-      rest = refl;
-      len = refl;
+      answer = (nil-from-nth (take (c .args .used) (c .args .entries .now)) (sym is ∙ c .in-Break-first .was tt), refl {a = c .args .entries .now});
+      rest = refl {a = drop (c .args .used) (c .args .entries .now)};
+      len = refl {a = length (c .args .entries .now)};
       order = tt;
     }
 
