@@ -1,19 +1,16 @@
 // What changes a shelf: an entry comes, or one goes.
 ghost use mathlib.Core.Path.{_≡_};
-ghost use mathlib.Core.Bool.{true};
-ghost use mathlib.Core.List.{[], _∷_};
 ghost use Prim.Native.Nat.{ℕ, _+_, _-_, _<_, _≤_};
 ghost use lib.ListN.{length, take, drop};
 ghost use Rattle.std.specs.Holes.{removed};
 ghost use Rattle.std.specs.Keys.{Total};
-ghost use Rattle.std.specs.Options.{Cases as BySome, isSome};
-ghost use Rattle.std.specs.Results.{Cases as ByOk};
+ghost use Rattle.std.specs.Options.{valueOr};
 ghost use Rattle.std.specs.Slices.{found as AtSome};
 ghost use Rattle.std.specs.Vec.{made};
 ghost use Rattle.std.specs.declared.cmp.Ordering.{Ordering};
-ghost use Rattle.std.specs.declared.option.Option.the-variants.{None};
+ghost use Rattle.shelf.specs.Calls.{Received, Released, Headed};
 ghost use Rattle.shelf.specs.Laws.{Arrived};
-ghost use Rattle.shelf.specs.Places.{carries, found, without, shelved, Ascending};
+ghost use Rattle.shelf.specs.Places.{carries, shelved, without, Ascending};
 ghost use Rattle.shelf.specs.Searches.{Lost};
 use crate::entries::Entry;
 use crate::questions::count;
@@ -29,7 +26,7 @@ pub fn insert<K: Ord + Copy>(
     used: usize,
     entry: Entry<K>,
 ) -> Result<usize, Entry<K>>
-    ensures answer { λ r. ⌜ ByOk r (λ n. (used < length (now (entries .entry))) × (n ≡ used + 1)) (λ back. (length (now (entries .entry)) ≤ used) × (back ≡ entry) × (now (entries .exit) ≡ now (entries .entry))) ⌝ }
+    ensures answer { λ r. ⌜ Received used entry (now (entries .entry)) r (now (entries .exit)) ⌝ }
     ensures list { λ r. ⌜ ((o : Total (K·Ord .orders)) → made r (λ n. take n (now (entries .exit)) ≡ shelved (o .cmp) entry (take used (now (entries .entry))))) ⌝ }
     ensures rest { λ _. ⌜ drop (used + 1) (now (entries .exit)) ≡ drop (used + 1) (now (entries .entry)) ⌝ }
     ensures len { λ _. ⌜ length (now (entries .exit)) ≡ length (now (entries .entry)) ⌝ }
@@ -62,11 +59,11 @@ fn lift<K: Copy>(entries: &mut [Entry<K>], used: usize, at: usize) -> usize
 // Takes the first entry that carries the load out, and answers how many are used now.
 // Where no entry carries it, nothing is changed.
 pub fn remove<K: Copy>(entries: &mut [Entry<K>], used: usize, load: u32) -> Option<usize>
-    ensures answer { λ r. ⌜ BySome r ((found load (take used (now (entries .entry))) ≡ None) × (now (entries .exit) ≡ now (entries .entry))) (λ n. (isSome (found load (take used (now (entries .entry)))) ≡ true) × (n + 1 ≡ length (take used (now (entries .entry))))) ⌝ }
-    ensures list { λ r. ⌜ AtSome r (λ n. take n (now (entries .exit)) ≡ without load (take used (now (entries .entry)))) ⌝ }
+    ensures answer { λ r. ⌜ Released used load (now (entries .entry)) r (now (entries .exit)) ⌝ }
+    ensures list { λ r. ⌜ take (valueOr r used) (now (entries .exit)) ≡ without load (take used (now (entries .entry))) ⌝ }
     ensures rest { λ _. ⌜ drop used (now (entries .exit)) ≡ drop used (now (entries .entry)) ⌝ }
     ensures len { λ _. ⌜ length (now (entries .exit)) ≡ length (now (entries .entry)) ⌝ }
-    ensures order { λ r. ⌜ AtSome r (λ n. (cmp : K → K → Ordering) → Ascending cmp (take used (now (entries .entry))) → Ascending cmp (take n (now (entries .exit)))) ⌝ }
+    ensures order { λ r. ⌜ ((cmp : K → K → Ordering) → Ascending cmp (take used (now (entries .entry))) → Ascending cmp (take (valueOr r used) (now (entries .exit)))) ⌝ }
     ensures law { λ r. ⌜ AtSome r (λ n. Lost (carries load) (take used (now (entries .entry))) (take n (now (entries .exit)))) ⌝ }
 {
     let at = place_of_load(listed(entries, used), load);
@@ -79,10 +76,11 @@ pub fn remove<K: Copy>(entries: &mut [Entry<K>], used: usize, load: u32) -> Opti
 // Takes the first entry out and answers it: the shelf then holds one entry less.
 // Where it holds none, nothing is changed.
 pub fn take_first<K: Copy>(entries: &mut [Entry<K>], used: usize) -> Option<Entry<K>>
-    ensures answer { λ r. ⌜ BySome r ((take used (now (entries .entry)) ≡ []) × (now (entries .exit) ≡ now (entries .entry))) (λ first. (0 < used) × (take used (now (entries .entry)) ≡ first ∷ take (length (take used (now (entries .entry))) - 1) (now (entries .exit)))) ⌝ }
+    ensures answer { λ r. ⌜ Headed used (now (entries .entry)) r (now (entries .exit)) ⌝ }
+    ensures list { λ _. ⌜ take (length (take used (now (entries .entry))) - 1) (now (entries .exit)) ≡ drop 1 (take used (now (entries .entry))) ⌝ }
     ensures rest { λ _. ⌜ drop used (now (entries .exit)) ≡ drop used (now (entries .entry)) ⌝ }
     ensures len { λ _. ⌜ length (now (entries .exit)) ≡ length (now (entries .entry)) ⌝ }
-    ensures order { λ r. ⌜ AtSome r (λ _. (cmp : K → K → Ordering) → Ascending cmp (take used (now (entries .entry))) → Ascending cmp (take (length (take used (now (entries .entry))) - 1) (now (entries .exit)))) ⌝ }
+    ensures order { λ _. ⌜ ((cmp : K → K → Ordering) → Ascending cmp (take used (now (entries .entry))) → Ascending cmp (take (length (take used (now (entries .entry))) - 1) (now (entries .exit)))) ⌝ }
 {
     let first = entry_at(listed(entries, used), 0)?;
     let _ = lift(entries, used, 0);

@@ -1,9 +1,9 @@
 // The two kinds of shelf: waiting moments, and category places.
 ghost use mathlib.Core.Path.{_≡_};
-ghost use Prim.Native.Nat.{ℕ, _+_, _<_, _≤_};
-ghost use lib.ListN.{length, take, drop};
-ghost use Rattle.std.specs.Results.{Cases as ByOk};
+ghost use Prim.Native.Nat.{ℕ, _+_};
+ghost use lib.ListN.{take, drop};
 ghost use Rattle.std.specs.Vec.{made};
+ghost use Rattle.shelf.specs.Calls.{Received};
 ghost use Rattle.shelf.specs.Kinds.{by-moment, by-place, Later, Further};
 ghost use Rattle.shelf.specs.Places.{shelved};
 use crate::changes::insert;
@@ -17,7 +17,7 @@ pub fn wait(
     moment: u64,
     slot: u32,
 ) -> Result<usize, Entry<u64>>
-    ensures answer { λ r. ⌜ ByOk r (λ n. (used < length (now (entries .entry))) × (n ≡ used + 1)) (λ back. (length (now (entries .entry)) ≤ used) × (back ≡ record { key = moment; load = slot }) × (now (entries .exit) ≡ now (entries .entry))) ⌝ }
+    ensures answer { λ r. ⌜ Received used (record { key = moment; load = slot }) (now (entries .entry)) r (now (entries .exit)) ⌝ }
     ensures list { λ r. ⌜ made r (λ n. take n (now (entries .exit)) ≡ shelved by-moment (record { key = moment; load = slot }) (take used (now (entries .entry)))) ⌝ }
     ensures rest { λ _. ⌜ drop (used + 1) (now (entries .exit)) ≡ drop (used + 1) (now (entries .entry)) ⌝ }
     ensures means { λ _. ⌜ Later ⌝ }
@@ -35,7 +35,7 @@ pub fn file(
     place: (u8, u8),
     accession: u32,
 ) -> Result<usize, Entry<(u8, u8)>>
-    ensures answer { λ r. ⌜ ByOk r (λ n. (used < length (now (entries .entry))) × (n ≡ used + 1)) (λ back. (length (now (entries .entry)) ≤ used) × (back ≡ record { key = place; load = accession }) × (now (entries .exit) ≡ now (entries .entry))) ⌝ }
+    ensures answer { λ r. ⌜ Received used (record { key = place; load = accession }) (now (entries .entry)) r (now (entries .exit)) ⌝ }
     ensures list { λ r. ⌜ made r (λ n. take n (now (entries .exit)) ≡ shelved by-place (record { key = place; load = accession }) (take used (now (entries .entry)))) ⌝ }
     ensures rest { λ _. ⌜ drop (used + 1) (now (entries .exit)) ≡ drop (used + 1) (now (entries .entry)) ⌝ }
     ensures means { λ _. ⌜ Further ⌝ }

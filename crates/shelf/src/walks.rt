@@ -4,8 +4,9 @@ ghost use Prim.Native.Nat.{ℕ, _≤_};
 ghost use lib.ListN.{length, take};
 ghost use Rattle.std.specs.Finite.{nth};
 ghost use Rattle.std.specs.Keys.{Total};
-ghost use Rattle.shelf.specs.Places.{place-of, place-of-load};
+ghost use Rattle.shelf.specs.Places.{above, place-of, place-of-load};
 use crate::entries::Entry;
+use std::cmp::Ordering;
 
 // The entries of the shelf: the first `used` of those lent, or all where there are no more.
 pub(crate) fn listed<K: Copy>(entries: &[Entry<K>], used: usize) -> &[Entry<K>]
@@ -29,13 +30,24 @@ pub(crate) fn entry_at<K: Copy>(list: &[Entry<K>], place: usize) -> Option<Entry
     }
 }
 
+// Whether the entry is strictly above the key.
+fn is_above<K: Ord + Copy>(entry: &Entry<K>, key: &K) -> bool
+    ensures { λ r. ⌜ ((o : Total (K·Ord .orders)) → r ≡ above (o .cmp) (now (key .entry)) (now (entry .entry))) ⌝ }
+{
+    match entry.key.cmp(key) {
+        Ordering::Less => false,
+        Ordering::Equal => false,
+        Ordering::Greater => true,
+    }
+}
+
 // The place of the first entry of the list that is above the key, or the list's length.
 pub(crate) fn place<K: Ord + Copy>(list: &[Entry<K>], key: &K) -> usize
     ensures bound { λ r. ⌜ r ≤ length (now (list .entry)) ⌝ }
     ensures value { λ r. ⌜ ((o : Total (K·Ord .orders)) → r ≡ place-of (o .cmp) (now (key .entry)) (now (list .entry))) ⌝ }
 {
     for (i, entry) in list.iter().enumerate() {
-        if entry.key.cmp(key).is_gt() {
+        if is_above(entry, key) {
             return i;
         }
     }

@@ -6,6 +6,7 @@ use Rattle.std.specs.Holes.{removed}
 use Rattle.shelf.specs.Places.{carries, place-of-load, without, Ascending}
 use Rattle.shelf.specs.Searches.{Lost}
 use Rattle.shelf.proofs.Firsts.{removed-first, lost}
+use Rattle.shelf.proofs.Found.{without-none}
 use Rattle.shelf.proofs.Ordered.{ascending-without}
 use Rattle.shelf.proofs.Steps.{none-past, some-within}
 use Rattle.shelf.proofs.changes.remove.Needs as need
@@ -15,12 +16,13 @@ returns-then-at-count g c =
     let xs = take (c .args .used) (c .args .entries .now) in
     let place = rw (c .listed .ensures) at (c .place-of-load-at .ensures .value) in
     let past : length xs ≤ place-of-load (c .args .load) xs = omega (arith, place) in
+    let none = none-past (carries (c .args .load)) xs past in
     record {
-      answer = (none-past (carries (c .args .load)) xs past, refl {a = c .args .entries .now});
-      list = tt;
+      answer = (none, refl {a = c .args .entries .now});
+      list = sym (without-none (carries (c .args .load)) xs none);
       rest = refl {a = drop (c .args .used) (c .args .entries .now)};
       len = refl {a = length (c .args .entries .now)};
-      order = tt;
+      order = λ cmp up. up;
       law = tt;
     }
 

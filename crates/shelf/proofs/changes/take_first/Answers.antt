@@ -9,11 +9,13 @@ use Rattle.shelf.proofs.changes.take_first.Needs as need
 pub returns-in-Break-first : need.returns-in-Break-first
 returns-in-Break-first g c =
     let is = rw (c .listed .ensures) at (c .entry-at .ensures) in
+    let empty = nil-from-nth (take (c .args .used) (c .args .entries .now)) (sym is ∙ c .in-Break-first .was tt) in
     rw (c .from-residual .ensures) record {
-      answer = (nil-from-nth (take (c .args .used) (c .args .entries .now)) (sym is ∙ c .in-Break-first .was tt), refl {a = c .args .entries .now});
+      answer = (empty, refl {a = c .args .entries .now});
+      list = rw empty;
       rest = refl {a = drop (c .args .used) (c .args .entries .now)};
       len = refl {a = length (c .args .entries .now)};
-      order = tt;
+      order = λ cmp up. rw empty tt;
     }
 
 pub lift-requires : need.lift-requires

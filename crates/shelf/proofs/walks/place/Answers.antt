@@ -1,22 +1,21 @@
-use mathlib.Core.Path.{sym, ap, _∙_}
+use mathlib.Core.Path.{sym}
 use native.Mathlib.Omega.{arith}
-use Rattle.std.specs.Orderings.{isGt}
 use Rattle.shelf.specs.Places.{above}
 use Rattle.shelf.proofs.Steps.{place-stop, place-more, place-all}
 use Rattle.shelf.proofs.walks.place.Needs as need
 
-pub returns-then-is-gt : need.returns-then-is-gt
-returns-then-is-gt g c = record {
+pub returns-then-is-above : need.returns-then-is-above
+returns-then-is-above g c = record {
   bound = omega arith;
   value = λ o.
-      let e = ap isGt (sym (o .says _ _ _ (c .cmp .ensures))) ∙ sym (c .if-is-gt .ensures tt) in
+      let e = sym (c .if-is-above .ensures tt o) in
       let stop = place-stop (above (o .cmp) (c .args .key .now)) (c .args .list .now) (c .loop-i .i) (c .index-list-i .result) (c .loop-i-test .taken) (c .index-list-i .is) e in
       omega (arith, c .loop-i .inv o, stop);
 }
 
 pub loop-i-again : need.loop-i-again
 loop-i-again g c = λ o.
-    let e = ap isGt (sym (o .says _ _ _ (c .cmp .ensures))) ∙ sym (c .if-is-gt .ensures tt) in
+    let e = sym (c .if-is-above .ensures tt o) in
     let more = place-more (above (o .cmp) (c .args .key .now)) (c .args .list .now) (c .loop-i .i) (c .index-list-i .result) (c .loop-i-test .taken) (c .index-list-i .is) e in
     omega (arith, c .loop-i .inv o, more)
 
