@@ -10,7 +10,8 @@ use std::cmp::Ordering;
 
 // The entries of the shelf: the first `used` of those lent, or all where there are no more.
 pub(crate) fn listed<K: Copy>(entries: &[Entry<K>], used: usize) -> &[Entry<K>]
-    ensures { λ r. ⌜ now r ≡ take used (now (entries .entry)) ⌝ }
+    ensures value { λ r. ⌜ now r ≡ take used (now (entries .entry)) ⌝ }
+    ensures bound { λ r. ⌜ (length (now r) ≤ used) × (length (now r) ≤ length (now (entries .entry))) ⌝ }
 {
     if used < entries.len() {
         &entries[0..used]

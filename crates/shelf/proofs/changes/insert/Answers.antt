@@ -22,11 +22,11 @@ returns g c =
     let p = c .place-at .result in
     let ys = c .rotate-right .last .self in
     let room : n ≤ length xs = omega arith in
-    let bound : p ≤ length (take n xs) = rw (c .listed .ensures) at (c .place-at .ensures .bound) in
+    let bound : p ≤ length (take n xs) = rw (c .listed .ensures .value) at (c .place-at .ensures .bound) in
     let at : p ≤ n = omega (arith, length-take-le n xs room) in
     let list : (o : Total (g .K·Ord .orders)) → take (n + 1) (putMid p (n + 1 - p) (set xs n e) ys) ≡ shelved (o .cmp) e (take n xs) =
     λ o.
-    let place = rw (c .listed .ensures) at (c .place-at .ensures .value o) in
+    let place = rw (c .listed .ensures .value) at (c .place-at .ensures .value o) in
     insert-front xs e n p (omega arith) at ys (c .rotate-right .ensures .after)
     ∙ ap (λ (i : ℕ). inserted (take n xs) i e) place
     ∙ inserted-shelved (o .cmp) e (take n xs) in

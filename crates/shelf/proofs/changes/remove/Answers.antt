@@ -14,7 +14,7 @@ use Rattle.shelf.proofs.changes.remove.Needs as need
 pub returns-then-at-count : need.returns-then-at-count
 returns-then-at-count g c =
     let xs = take (c .args .used) (c .args .entries .now) in
-    let place = rw (c .listed .ensures) at (c .place-of-load-at .ensures .value) in
+    let place = rw (c .listed .ensures .value) at (c .place-of-load-at .ensures .value) in
     let past : length xs ≤ place-of-load (c .args .load) xs = omega (arith, place) in
     let none = none-past (carries (c .args .load)) xs past in
     record {
@@ -29,7 +29,7 @@ returns-then-at-count g c =
 pub returns : need.returns
 returns g c =
     let xs = take (c .args .used) (c .args .entries .now) in
-    let place = rw (c .listed .ensures) at (c .place-of-load-at .ensures .value) in
+    let place = rw (c .listed .ensures .value) at (c .place-of-load-at .ensures .value) in
     let within : place-of-load (c .args .load) xs < length xs = omega (arith, place) in
     let test = carries (c .args .load) in
     let some = some-within test xs within in

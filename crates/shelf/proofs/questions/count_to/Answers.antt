@@ -12,9 +12,9 @@ pub returns : need.returns
 returns g c =
     let xs = take (c .args .used) (c .args .entries .now) in
     let k = c .args .key .now in
-    let value : (o : Total (g .K·Ord .orders)) → c .place .result ≡ place-of (o .cmp) k xs = λ o. rw (c .listed .ensures) at (c .place .ensures .value o) in
+    let value : (o : Total (g .K·Ord .orders)) → c .place .result ≡ place-of (o .cmp) k xs = λ o. rw (c .listed .ensures .value) at (c .place .ensures .value o) in
     record {
-      bound = rw (c .listed .ensures) at (c .place .ensures .bound);
+      bound = rw (c .listed .ensures .value) at (c .place .ensures .bound);
       value = value;
       law = λ o up. subst (Reach (o .cmp) k xs) (sym (value o)) (reach o k xs up);
     }

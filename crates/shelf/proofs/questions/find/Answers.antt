@@ -10,5 +10,5 @@ pub returns : need.returns
 returns g c =
     let xs = take (c .args .used) (c .args .entries .now) in
     let load = c .args .load in
-    let value : c .entry-at .result ≡ found load xs = rw (c .entry-at .ensures, c .place-of-load .ensures .value, c .listed-list .ensures) (nth-place (carries load) xs) in
+    let value : c .entry-at .result ≡ found load xs = rw (c .entry-at .ensures, c .place-of-load .ensures .value, c .listed-list .ensures .value) (nth-place (carries load) xs) in
     record { value = value; law = subst (First (carries load) xs) (sym value) (first-is (carries load) xs) }

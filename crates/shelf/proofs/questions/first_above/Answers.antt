@@ -12,5 +12,5 @@ returns g c =
     let xs = take (c .args .used) (c .args .entries .now) in
     let k = c .args .key .now in
     let value : (o : Total (g .K·Ord .orders)) → c .entry-at .result ≡ first-above (o .cmp) k xs =
-    λ o. rw (c .entry-at .ensures, c .place .ensures .value o, c .listed-list .ensures) (nth-place (above (o .cmp) k) xs) in
+    λ o. rw (c .entry-at .ensures, c .place .ensures .value o, c .listed-list .ensures .value) (nth-place (above (o .cmp) k) xs) in
     record { value = value; law = λ o up. subst (Next (o .cmp) k xs) (sym (value o)) (next o k xs up) }
