@@ -19,14 +19,16 @@ use Rattle.std.specs.declared.option.Option.the-variants.{Some, None}
 use Rattle.std.specs.declared.result.Result.{Result}
 use Rattle.std.specs.declared.result.Result.the-variants.{Ok, Err}
 use Rattle.header.specs.Cores.{core-in, kind-of, body-fits}
-use Rattle.header.specs.Finds.{refusal-at, NameRecord, FoundRecord}
+use Rattle.header.specs.Finds.{refusal-at, FoundRecord}
+use Rattle.header.specs.Names.{NameRecord}
 use Rattle.header.specs.Headers.{HeaderRecord, and-then, demand, nothing, params-of, effective, header-with, completed, read-with, header-of}
 use Rattle.header.specs.Written.{Param, written, Proper, given, Says-name, Describes, Header-law}
 use Rattle.header.specs.declared.kinds.Core.{Core}
 use Rattle.header.specs.declared.kinds.Kind.{Kind}
 use Rattle.header.specs.declared.kinds.Meaning.the-variants.{ContentName}
 use Rattle.header.proofs.Runs.{Adds, Finds, adds-given, given-adds, sound, full}
-use Rattle.header.proofs.Accepted.{then-go, then-ok, demanded, met, was-some, some-ok, kind-allowed, allowed-kind, allowed-body, effect-from, effect-to, core-below, core-whole, core-narrow, whole-core}
+use Rattle.header.proofs.Chains.{then-go, then-ok, demanded, met, was-some, some-ok}
+use Rattle.header.proofs.Accepted.{kind-allowed, allowed-kind, allowed-body, effect-from, effect-to, core-below, core-whole, core-narrow, whole-core}
 
 -- what a header that was accepted has passed
 pub record Passed (c : Core) (size : ℕ) (xs : List ℕ) (slot : ℕ) (h : HeaderRecord) : Type 0 where

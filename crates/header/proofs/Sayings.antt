@@ -18,13 +18,11 @@ use Rattle.std.specs.declared.option.Option.{Option}
 use Rattle.std.specs.declared.option.Option.the-variants.{Some, None}
 use Rattle.std.specs.declared.result.Result.{Result}
 use Rattle.std.specs.declared.result.Result.the-variants.{Ok, Err}
-use Rattle.header.specs.Finds.{refusal-at, moved-to, NameRecord, FoundRecord, time-at, version-at, category-at, name-at, once, set-with}
+use Rattle.header.specs.Finds.{refusal-at, moved-to, FoundRecord, time-at, version-at, category-at, name-at, once, set-with}
+use Rattle.header.specs.Names.{NameRecord}
 use Rattle.header.specs.Written.{Says-time, Says-version, Says-category, Says-name}
 use Rattle.header.specs.declared.kinds.Category.{Category}
-
--- a refusal is no value
-pub refused-not : {T : Type 0} (e : Fault) (v : T) → _≡_ {A = Result T Fault} (Err e) (Ok v) → ⊥
-refused-not e v p = let z : _≡_ {A = ℕ} 0 1 = cc in omega arith
+use Rattle.header.proofs.Chains.{refused-not}
 
 -- times
 moved : (i : ℕ) (t : Time) (r : Result Time Fault) → results.mapped (λ x. x) (moved-to i) r ≡ Ok t → r ≡ Ok t

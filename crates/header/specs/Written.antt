@@ -15,7 +15,8 @@ use Rattle.std.specs.declared.option.Option.{Option}
 use Rattle.std.specs.declared.option.Option.the-variants.{Some, None}
 use Rattle.std.specs.declared.result.Result.{Result}
 use Rattle.std.specs.declared.result.Result.the-variants.{Ok, Err}
-use Rattle.header.specs.Finds.{meaning-of, NameRecord}
+use Rattle.header.specs.Finds.{meaning-of}
+use Rattle.header.specs.Names.{NameRecord}
 use Rattle.header.specs.Headers.{HeaderRecord}
 use Rattle.header.specs.declared.kinds.Category.{Category}
 use Rattle.header.specs.declared.kinds.Kind.{Kind}

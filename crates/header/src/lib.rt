@@ -7,8 +7,10 @@ ghost use Rattle.header.specs.Headers.{params-of, seen-found, completed, seen,
 ghost use Rattle.header.specs.Written.{Header-law};
 
 mod cores;
+pub mod figures;
 mod finds;
 pub mod kinds;
+pub mod names;
 mod params;
 
 use cores::body_fits;

@@ -18,6 +18,7 @@ use Rattle.header.specs.Finds.{refusal-at}
 use Rattle.header.specs.Headers.{HeaderRecord, and-then, demand, read-with, header-of}
 use Rattle.header.specs.Written.{Header-law}
 use Rattle.header.specs.declared.kinds.Core.{Core}
+use Rattle.header.proofs.Chains.{then-go, met}
 use Rattle.header.proofs.Laws.{header-law}
 use Rattle.header.proofs.read_header.Needs as need
 
@@ -39,7 +40,7 @@ split xs slot r core h e is =
     is
     ∙ ap (λ (c : Core). read-with c (length xs) (take (length xs - 7) (drop 7 xs)) slot) (e ∙ ap (λ (ys : List ℕ). core-in (whole ys)) (seven xs h))
     ∙ ap (λ (ys : List ℕ). read-with (core-in (whole (take 7 xs))) (length xs) ys slot) (take-rest xs 7)
-    ∙ sym (ap (λ (s : Result (Unit {0}) Fault). and-then s (λ u. read-with (core-in (whole (take 7 xs))) (length xs) (drop 7 xs) slot)) (cond-true (leb 7 (length xs)) _ _ (le-leb 7 (length xs) h)))
+    ∙ sym (then-go _ _ tt _ (met _ HeaderCut (le-leb 7 (length xs) h)) refl)
 
 -- the law of what was read
 lawful : (xs : List ℕ) (slot : ℕ) (r : Result HeaderRecord Fault) → ((i : ℕ) → getD xs i 0 < 256) → r ≡ header-of xs slot → Header-law xs slot r
