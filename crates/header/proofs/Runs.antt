@@ -16,8 +16,8 @@ use Rattle.header.specs.Finds.{FoundRecord, meaning-of, time-at, version-at, c
 use Rattle.header.specs.Headers.{and-then, part-at, params-from}
 use Rattle.header.specs.Written.{Form, marked, short, long, Param, written-as, written, Proper, kept, given, Says-time, Says-version, Says-category, Says-name, Given}
 use Rattle.header.specs.declared.kinds.Kind.{Kind}
-use Rattle.header.specs.declared.kinds.Meaning.{Meaning}
-use Rattle.header.specs.declared.kinds.Meaning.the-variants.{ExpireTime, TriggerTime, VersionNumber, ContentName, CategorySlide, Skipped}
+use Rattle.header.specs.declared.parts.Meaning.{Meaning}
+use Rattle.header.specs.declared.parts.Meaning.the-variants.{ExpireTime, TriggerTime, VersionNumber, ContentName, CategorySlide, Skipped}
 use Rattle.header.proofs.Chains.{none-not, then-ok, was-some}
 use Rattle.header.proofs.Steps.{shorter, one-more}
 use Rattle.header.proofs.Forms.{read-back, stands, kept-bytes}

@@ -21,12 +21,12 @@ use Rattle.std.specs.declared.result.Result.the-variants.{Ok, Err}
 use Rattle.header.specs.Names.{NameRecord}
 use Rattle.header.specs.Params.{Part}
 use Rattle.header.specs.declared.kinds.Category.{Category}
-use Rattle.header.specs.declared.kinds.Found.{Found}
+use Rattle.header.specs.declared.parts.Found.{Found}
 use Rattle.header.specs.declared.kinds.Kind.{Kind}
 use Rattle.header.specs.declared.kinds.Kind.the-variants.{Image, Update}
 use Rattle.header.specs.declared.kinds.Label.{Label}
-use Rattle.header.specs.declared.kinds.Meaning.{Meaning}
-use Rattle.header.specs.declared.kinds.Meaning.the-variants.{ExpireTime, TriggerTime, VersionNumber, ContentName, CategorySlide, Skipped}
+use Rattle.header.specs.declared.parts.Meaning.{Meaning}
+use Rattle.header.specs.declared.parts.Meaning.the-variants.{ExpireTime, TriggerTime, VersionNumber, ContentName, CategorySlide, Skipped}
 
 -- a refusal by this layer
 abbrev pub refusal-at : Cause → ℕ → Fault

@@ -21,7 +21,7 @@ use Rattle.header.specs.Finds.{refusal-at, FoundRecord, taken, found-of, name-
 use Rattle.header.specs.Names.{NameRecord}
 use Rattle.header.specs.declared.kinds.Category.{Category}
 use Rattle.header.specs.declared.kinds.Core.{Core}
-use Rattle.header.specs.declared.kinds.Found.{Found}
+use Rattle.header.specs.declared.parts.Found.{Found}
 use Rattle.header.specs.declared.kinds.Header.{Header}
 use Rattle.header.specs.declared.kinds.Kind.{Kind}
 use Rattle.header.specs.declared.kinds.Kind.the-variants.{Image, Update}

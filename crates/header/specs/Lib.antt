@@ -6,3 +6,4 @@ pub mod Headers
 pub mod Written
 pub mod Kept
 pub mod Examples
+pub mod Sound

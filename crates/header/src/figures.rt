@@ -28,22 +28,7 @@ pub fn cut_trigger_is_refused() -> Result<Header<'static>, Fault>
     ensures figure { λ _. ⌜ ((i a b c : ℕ) → part-at i (0x85 ∷ a ∷ b ∷ c ∷ []) ≡ Err (refusal-at ParameterPastEnd i)) ⌝ }
     ensures answer { λ r. ⌜ seen r ≡ Err (refusal-at ParameterPastEnd 7) ⌝ }
 {
-    read_header(
-        &[
-            0x00,
-            0x00,
-            0x00,
-            0x30,
-            0x05,
-            0x84,
-            0x01,
-            0x85,
-            0xBA,
-            0x98,
-            0x08,
-        ],
-        3,
-    )
+    read_header(b"\x00\x00\x00\x30\x05\x84\x01\x85\xBA\x98\x08", 3)
 }
 
 // An image of three bytes that is named A and shown a second and sixteen milliseconds into day 60,000.
@@ -52,27 +37,7 @@ pub fn slide_a() -> Result<Header<'static>, Fault>
     ensures answer { λ r. ⌜ seen r ≡ Ok slide-a ⌝ }
 {
     read_header(
-        &[
-            0x00,
-            0x00,
-            0x00,
-            0x30,
-            0x09,
-            0x84,
-            0x01,
-            0xCC,
-            0x02,
-            0x00,
-            0x41,
-            0xC5,
-            0x06,
-            0xBA,
-            0x98,
-            0x08,
-            0x00,
-            0x04,
-            0x10,
-        ],
+        b"\x00\x00\x00\x30\x09\x84\x01\xCC\x02\x00\x41\xC5\x06\xBA\x98\x08\x00\x04\x10",
         4096,
     )
 }

@@ -20,7 +20,7 @@ fn padded(bytes: &[u8]) -> [u8; 64]
 
 impl Name {
     // The name of nothing, for places that hold no name yet.
-    pub fn none() -> Name
+    pub fn blank() -> Name
         ensures { λ r. ⌜ name-of r ≡ no-name ⌝ }
     {
         Name {
@@ -45,13 +45,7 @@ impl Name {
         })
     }
 
-    pub fn charset(&self) -> u8
-        ensures { λ r. ⌜ r ≡ name-of (now (self .entry)) .charset ⌝ }
-    {
-        self.charset
-    }
-
-    pub fn bytes(&self) -> &[u8]
+    fn text(&self) -> &[u8]
         ensures { λ r. ⌜ now r ≡ name-of (now (self .entry)) .bytes ⌝ }
     {
         &self.bytes[0..usize::from(self.len)]
@@ -62,7 +56,7 @@ impl Name {
         ensures value { λ r. ⌜ r ≡ same-name (name-of (now (self .entry))) (record { charset = charset; bytes = now (bytes .entry) }) ⌝ }
         ensures test { λ r. ⌜ Decides r (name-of (now (self .entry)) ≡ record { charset = charset; bytes = now (bytes .entry) }) ⌝ }
     {
-        self.charset == charset && self.bytes() == bytes
+        self.charset == charset && self.text() == bytes
     }
 
     // Whether the other is the same name.
@@ -71,6 +65,6 @@ impl Name {
         ensures test { λ r. ⌜ Decides r (now (self .entry) ≡ now (other .entry)) ⌝ }
         ensures once { λ _. ⌜ Kept-once ⌝ }
     {
-        self.is(other.charset, other.bytes())
+        self.is(other.charset, other.text())
     }
 }

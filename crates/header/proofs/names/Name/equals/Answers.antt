@@ -12,7 +12,7 @@ pub returns : need.returns
 returns c =
     let a = c .args .self .now in
     let b = c .args .other .now in
-    let t : Decides (c .is .result) (name-of a ≡ name-of b) = subst (λ (ys : List ℕ). Decides (c .is .result) (name-of a ≡ record { charset = b .charset; bytes = ys })) (c .bytes .ensures) (c .is .ensures .test) in
+    let t : Decides (c .is .result) (name-of a ≡ name-of b) = subst (λ (ys : List ℕ). Decides (c .is .result) (name-of a ≡ record { charset = b .charset; bytes = ys })) (c .text .ensures) (c .is .ensures .test) in
     record {
       value = same-from-decides (c .is .result) (same-name (name-of a) (name-of b)) t (same-decides (name-of a) (name-of b));
       test = decides-like (c .is .result) (kept-once a b) (ap name-of) t;

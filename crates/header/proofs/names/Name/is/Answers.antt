@@ -19,6 +19,6 @@ pub returns-then-self-charset : need.returns-then-self-charset
 returns-then-self-charset c =
     let a = name-of (c .args .self .now) in
     let b : NameRecord = record { charset = c .args .charset; bytes = c .args .bytes .now } in
-    let d : Decides (c .eq .result) (a .bytes ≡ c .args .bytes .now) = subst (λ (ys : List ℕ). Decides (c .eq .result) (ys ≡ c .args .bytes .now)) (c .bytes .ensures) (matches-decides _ _ _ (c .eq .ensures)) in
+    let d : Decides (c .eq .result) (a .bytes ≡ c .args .bytes .now) = subst (λ (ys : List ℕ). Decides (c .eq .result) (ys ≡ c .args .bytes .now)) (c .text .ensures) (matches-decides _ _ _ (c .eq .ensures)) in
     let t = by-bytes a (c .args .charset) (c .args .bytes .now) (c .eq .result) (c .if-self-charset .taken) d in
     record { value = same-from-decides (c .eq .result) (same-name a b) t (same-decides a b); test = t }
