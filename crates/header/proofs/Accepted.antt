@@ -21,37 +21,13 @@ use Rattle.std.specs.declared.option.Option.the-variants.{Some, None}
 use Rattle.std.specs.declared.result.Result.{Result}
 use Rattle.std.specs.declared.result.Result.the-variants.{Ok, Err}
 use Rattle.header.specs.Cores.{core-in, kind-of, body-fits}
-use Rattle.header.specs.Finds.{refusal-at, NameRecord, FoundRecord}
+use Rattle.header.specs.Finds.{refusal-at, FoundRecord}
+use Rattle.header.specs.Names.{NameRecord}
 use Rattle.header.specs.Headers.{HeaderRecord, and-then, demand, params-of, effective, header-with, completed, read-with}
 use Rattle.header.specs.Written.{Allowed, Effect}
 use Rattle.header.specs.declared.kinds.Core.{Core}
 use Rattle.header.specs.declared.kinds.Kind.{Kind}
 use Rattle.header.specs.declared.kinds.Kind.the-variants.{Image, Update}
-use Rattle.header.proofs.Sayings.{refused-not}
-
--- going on from a value that was read, and back to it
-pub then-go : {T U : Type 0} (r : Result T Fault) (f : T → Result U Fault) (x : T) (y : Result U Fault) → r ≡ Ok x → f x ≡ y → and-then r f ≡ y
-then-go r f x y e is = ap (λ s. and-then s f) e ∙ is
-
-pub then-ok : {T U : Type 0} (r : Result T Fault) (f : T → Result U Fault) (y : U) → and-then r f ≡ Ok y → (x : T) × (r ≡ Ok x) × (f x ≡ Ok y)
-then-ok (Ok x) f y e = (x, refl, e)
-then-ok (Err x) f y e = absurd (refused-not x y e)
-
--- a test that was passed
-pub demanded : (b : Bool) (c : Cause) (u : Unit {0}) → demand b c ≡ Ok u → b ≡ true
-demanded true c u e = refl
-demanded false c u e = absurd (refused-not _ u e)
-
-pub met : (b : Bool) (c : Cause) → b ≡ true → demand b c ≡ Ok tt
-met b c e = cond-true b _ _ e
-
--- a value that was there
-pub was-some : {T : Type 0} (o : Option T) (e : Fault) (v : T) → okOr o e ≡ Ok v → o ≡ Some v
-was-some None e v p = absurd (refused-not e v p)
-was-some (Some w) e v p = cc
-
-pub some-ok : {T : Type 0} (o : Option T) (e : Fault) (v : T) → o ≡ Some v → okOr o e ≡ Ok v
-some-ok o e v p = ap (λ q. okOr q e) p
 
 -- the kind and its body
 pub kind-allowed : (k : Kind) (t s b slot : ℕ) → kind-of t s ≡ Some k → body-fits k b slot ≡ true → Allowed k t s b slot

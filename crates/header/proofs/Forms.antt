@@ -14,7 +14,7 @@ use Rattle.std.specs.shelf.Lists.{All}
 use Rattle.std.specs.declared.option.Option.{Option}
 use Rattle.std.specs.declared.option.Option.the-variants.{Some, None}
 use Rattle.header.specs.Params.{mark-in, id-in, long-extent, extent-of, Part, first-within, first-of}
-use Rattle.header.proofs.Steps.{passed}
+use Rattle.header.proofs.Chains.{none-not, passed}
 use Rattle.header.specs.Written.{Form, marked, short, long, Param, written-as, written, Gives-length, Proper}
 
 -- a part that begins behind its head and what gives its length
@@ -124,17 +124,14 @@ stands-long h a d t q b b′ b″ m z c =
     let low : length (q .holds) % 256 ≡ d = omega arith in
     (long, omega arith, omega arith, λ k. head k ∷ high k ∷ low k ∷ c .lies-at k)
 
-no-part : (q : Part) → _≡_ {A = Option Part} None (Some q) → ⊥
-no-part q e = let z : _≡_ {A = ℕ} 0 1 = cc in omega arith
-
 -- behind mark 3
 stands-behind : (h : ℕ) (t : List ℕ) (q : Part) → h < 256 → All (λ b. b < 256) t → 3 ≤ mark-in h → first-within (h ∷ t) (long-extent t) ≡ Some q → Stands (h ∷ t) q
-stands-behind h [] q b bs m e = absurd (no-part q e)
+stands-behind h [] q b bs m e = absurd (none-not q e)
 stands-behind h (a ∷ []) q b bs m e = go (eqb (field 8 0 1 a) 0) refl e
   where
     go : (f : Bool) → eqb (field 8 0 1 a) 0 ≡ f → first-within (h ∷ a ∷ []) (cond f (Some (2, field 8 1 7 a)) None) ≡ Some q → Stands (h ∷ a ∷ []) q
     go true z c = stands-short h a [] q b (bs .0) m (eqb-true _ _ z) (cut-from (h ∷ a ∷ []) 2 (field 8 1 7 a) q c)
-    go false z c = absurd (no-part q c)
+    go false z c = absurd (none-not q c)
 stands-behind h (a ∷ d ∷ t) q b bs m e = go (eqb (field 8 0 1 a) 0) refl e
   where
     n : ℕ
@@ -146,7 +143,7 @@ stands-behind h (a ∷ d ∷ t) q b bs m e = go (eqb (field 8 0 1 a) 0) refl e
 
 -- what is read was written in some form
 pub stands : (xs : List ℕ) (q : Part) → All (λ b. b < 256) xs → first-of xs ≡ Some q → Stands xs q
-stands [] q bs e = absurd (no-part q e)
+stands [] q bs e = absurd (none-not q e)
 stands (h ∷ t) q bs e = go (ltb (mark-in h) 3) refl e
   where
     go : (f : Bool) → ltb (mark-in h) 3 ≡ f → first-within (h ∷ t) (cond f (Some (1, mark-in h * mark-in h)) (long-extent t)) ≡ Some q → Stands (h ∷ t) q
@@ -154,7 +151,7 @@ stands (h ∷ t) q bs e = go (ltb (mark-in h) 3) refl e
     go false m c = stands-behind h t q (bs .0) (bs .1) (ltb-false (mark-in h) 3 m) c
 
 kept-within : (xs : List ℕ) (o : Option (ℕ × ℕ)) (q : Part) → All (λ b. b < 256) xs → first-within xs o ≡ Some q → All (λ b. b < 256) (q .holds) × All (λ b. b < 256) (q .rest)
-kept-within xs None q bs e = absurd (no-part q e)
+kept-within xs None q bs e = absurd (none-not q e)
 kept-within xs (Some d) q bs e =
     let (t, is) = passed (leb (d .0 + d .1) (length xs)) _ q e in
     subst (λ (r : Part). All (λ b. b < 256) (r .holds) × All (λ b. b < 256) (r .rest)) is (all-take (λ b. b < 256) (d .1) (drop (d .0) xs) (all-drop (λ b. b < 256) (d .0) xs bs), all-drop (λ b. b < 256) (d .0 + d .1) xs bs)

@@ -19,14 +19,16 @@ use Rattle.std.specs.declared.option.Option.the-variants.{Some, None}
 use Rattle.std.specs.declared.result.Result.{Result}
 use Rattle.std.specs.declared.result.Result.the-variants.{Ok, Err}
 use Rattle.header.specs.Cores.{core-in, kind-of, body-fits}
-use Rattle.header.specs.Finds.{refusal-at, NameRecord, FoundRecord}
+use Rattle.header.specs.Finds.{refusal-at, FoundRecord}
+use Rattle.header.specs.Names.{NameRecord}
 use Rattle.header.specs.Headers.{HeaderRecord, and-then, demand, nothing, params-of, effective, header-with, completed, read-with, header-of}
 use Rattle.header.specs.Written.{Param, written, Proper, given, Says-name, Describes, Header-law}
 use Rattle.header.specs.declared.kinds.Core.{Core}
 use Rattle.header.specs.declared.kinds.Kind.{Kind}
-use Rattle.header.specs.declared.kinds.Meaning.the-variants.{ContentName}
+use Rattle.header.specs.declared.parts.Meaning.the-variants.{ContentName}
 use Rattle.header.proofs.Runs.{Adds, Finds, adds-given, given-adds, sound, full}
-use Rattle.header.proofs.Accepted.{then-go, then-ok, demanded, met, was-some, some-ok, kind-allowed, allowed-kind, allowed-body, effect-from, effect-to, core-below, core-whole, core-narrow, whole-core}
+use Rattle.header.proofs.Chains.{then-go, then-ok, demanded, met, was-some, some-ok}
+use Rattle.header.proofs.Accepted.{kind-allowed, allowed-kind, allowed-body, effect-from, effect-to, core-below, core-whole, core-narrow, whole-core}
 
 -- what a header that was accepted has passed
 pub record Passed (c : Core) (size : ℕ) (xs : List ℕ) (slot : ℕ) (h : HeaderRecord) : Type 0 where
@@ -67,7 +69,7 @@ passed-to c size xs slot h p =
     then-go _ _ _ _ (met _ HeaderSizeDiffers (eq-eqb _ _ (p .sized))) (then-go _ _ _ _ (some-ok _ _ (p .kind) (p .kind-is)) (then-go _ _ _ _ (met _ BodySizeMisfit (p .fits)) (then-go _ _ _ _ (p .ran) (then-go _ _ _ _ (some-ok _ _ (p .name) (p .named)) (then-go _ _ _ _ (met _ UpdateWithoutEffect (p .effect)) (ap Ok (p .is)))))))
 
 -- the core, where there is one
-cored : (xs : List ℕ) (slot : ℕ) (h : HeaderRecord) → header-of xs slot ≡ Ok h → (7 ≤ length xs) × Passed (core-in (whole (take 7 xs))) (length xs) (drop 7 xs) slot h
+pub cored : (xs : List ℕ) (slot : ℕ) (h : HeaderRecord) → header-of xs slot ≡ Ok h → (7 ≤ length xs) × Passed (core-in (whole (take 7 xs))) (length xs) (drop 7 xs) slot h
 unfolding header-of
 cored xs slot h e =
     let (u, l, r) = then-ok (demand (leb 7 (length xs)) HeaderCut) _ h e in

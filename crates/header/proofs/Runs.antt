@@ -16,26 +16,24 @@ use Rattle.header.specs.Finds.{FoundRecord, meaning-of, time-at, version-at, c
 use Rattle.header.specs.Headers.{and-then, part-at, params-from}
 use Rattle.header.specs.Written.{Form, marked, short, long, Param, written-as, written, Proper, kept, given, Says-time, Says-version, Says-category, Says-name, Given}
 use Rattle.header.specs.declared.kinds.Kind.{Kind}
-use Rattle.header.specs.declared.kinds.Meaning.{Meaning}
-use Rattle.header.specs.declared.kinds.Meaning.the-variants.{ExpireTime, TriggerTime, VersionNumber, ContentName, CategorySlide, Skipped}
-use Rattle.header.proofs.Steps.{shorter, found-part, one-more}
+use Rattle.header.specs.declared.parts.Meaning.{Meaning}
+use Rattle.header.specs.declared.parts.Meaning.the-variants.{ExpireTime, TriggerTime, VersionNumber, ContentName, CategorySlide, Skipped}
+use Rattle.header.proofs.Chains.{none-not, then-ok, was-some}
+use Rattle.header.proofs.Steps.{shorter, one-more}
 use Rattle.header.proofs.Forms.{read-back, stands, kept-bytes}
-use Rattle.header.proofs.Sayings.{refused-not, says-time, time-said, says-version, version-said, says-category, category-said, says-name, name-said, once-read, read-once}
+use Rattle.header.proofs.Sayings.{says-time, time-said, says-version, version-said, says-category, category-said, says-name, name-said, once-read, read-once}
 
 -- from a value o the data ds lead to a value o′
 abbrev pub Adds : {T : Type 0} → (T → List ℕ → Type 0) → Option T → List (List ℕ) → Option T → Type 0
 Adds Says o [] o′ = o′ ≡ o
 Adds {T} Says o (xs ∷ ds) o′ = (o ≡ None) × ((v : T) × Says v xs × Adds Says (Some v) ds o′)
 
-some-not : {T : Type 0} (v : T) → _≡_ {A = Option T} (Some v) None → ⊥
-some-not v e = let z : _≡_ {A = ℕ} 0 1 = cc in omega arith
-
 pub adds-given : {T : Type 0} (Says : T → List ℕ → Type 0) (ds : List (List ℕ)) (o : Option T) → Adds Says None ds o → Given Says ds o
 adds-given Says [] None e = tt
-adds-given Says [] (Some v) e = absurd (some-not v e)
-adds-given Says (xs ∷ []) None e = absurd (some-not _ (sym (e .1 .2)))
+adds-given Says [] (Some v) e = absurd (none-not v (sym e))
+adds-given Says (xs ∷ []) None e = absurd (none-not _ (e .1 .2))
 adds-given {T} Says (xs ∷ []) (Some v) e = let q : e .1 .0 ≡ v = cc (e .1 .2) in subst (λ (w : T). Says w xs) q (e .1 .1)
-adds-given Says (xs ∷ ys ∷ ds) o e = absurd (some-not _ (e .1 .2 .0))
+adds-given Says (xs ∷ ys ∷ ds) o e = absurd (none-not _ (sym (e .1 .2 .0)))
 
 pub given-adds : {T : Type 0} (Says : T → List ℕ → Type 0) (ds : List (List ℕ)) (o : Option T) → Given Says ds o → Adds Says None ds o
 given-adds Says [] None e = refl
@@ -99,11 +97,6 @@ finds-taken CategorySlide i xs f g ds a =
 finds-taken Skipped i xs f g ds a =
     (f, refl, record { expire = a .expire; trigger = a .trigger; version = a .version; name = a .name; category = a .category })
 
--- a value read was there to read
-then-ok : {T U : Type 0} (r : Result T Fault) (f : T → Result U Fault) (y : U) → and-then r f ≡ Ok y → (x : T) × (r ≡ Ok x) × (f x ≡ Ok y)
-then-ok (Ok x) f y e = (x, refl, e)
-then-ok (Err x) f y e = absurd (refused-not x y e)
-
 -- with nothing given nothing is found
 pub none-found : (f g : FoundRecord) → f ≡ g → Finds (λ m. []) f g
 none-found f g e =
@@ -121,7 +114,7 @@ sound (suc n) k i [] f g bs l e = let q : f ≡ g = cc in ([], tt, refl, none-fo
 sound (suc n) k i (x ∷ xs) f g bs l e =
     let (p, read, after) = then-ok (part-at i (x ∷ xs)) _ g e in
     let (h, took, rest) = then-ok (taken k i p f) _ g after in
-    let first = found-part i (first-of (x ∷ xs)) p read in
+    let first = was-some (first-of (x ∷ xs)) _ p read in
     let s = shorter (x ∷ xs) p first in
     let b = kept-bytes (x ∷ xs) p bs first in
     let (form, id, fits, is) = stands (x ∷ xs) p bs first in

@@ -18,13 +18,11 @@ use Rattle.std.specs.declared.option.Option.{Option}
 use Rattle.std.specs.declared.option.Option.the-variants.{Some, None}
 use Rattle.std.specs.declared.result.Result.{Result}
 use Rattle.std.specs.declared.result.Result.the-variants.{Ok, Err}
-use Rattle.header.specs.Finds.{refusal-at, moved-to, NameRecord, FoundRecord, time-at, version-at, category-at, name-at, once, set-with}
+use Rattle.header.specs.Finds.{refusal-at, moved-to, FoundRecord, time-at, version-at, category-at, name-at, once, set-with}
+use Rattle.header.specs.Names.{NameRecord}
 use Rattle.header.specs.Written.{Says-time, Says-version, Says-category, Says-name}
 use Rattle.header.specs.declared.kinds.Category.{Category}
-
--- a refusal is no value
-pub refused-not : {T : Type 0} (e : Fault) (v : T) → _≡_ {A = Result T Fault} (Err e) (Ok v) → ⊥
-refused-not e v p = let z : _≡_ {A = ℕ} 0 1 = cc in omega arith
+use Rattle.header.proofs.Chains.{refused-not}
 
 -- times
 moved : (i : ℕ) (t : Time) (r : Result Time Fault) → results.mapped (λ x. x) (moved-to i) r ≡ Ok t → r ≡ Ok t
@@ -58,24 +56,28 @@ pub category-said : (i : ℕ) (xs : List ℕ) (c : Category) → Says-category c
 category-said i xs c e = ap (category-at i) e
 
 -- names
+pub name-read : (i h : ℕ) (xs : List ℕ) (n : NameRecord) → name-at i (h ∷ xs) ≡ Ok n → (record { charset = field 8 0 4 h; bytes = xs } ≡ n) × (0 < length xs) × (length xs ≤ 64)
+name-read i h xs n e = go (ltb 0 (length xs) && leb (length xs) 64) refl e
+  where
+    go : (b : Bool) → (ltb 0 (length xs) && leb (length xs) 64) ≡ b → _≡_ {A = Result NameRecord Fault} (cond b (Ok (record { charset = field 8 0 4 h; bytes = xs })) (Err (refusal-at ParameterMalformed i))) (Ok n) → (record { charset = field 8 0 4 h; bytes = xs } ≡ n) × (0 < length xs) × (length xs ≤ 64)
+    go true t p =
+        let (s, f) = and-parts (ltb 0 (length xs)) (leb (length xs) 64) t in
+        (cc, ltb-true 0 (length xs) s, leb-true (length xs) 64 f)
+    go false t p = absurd (refused-not _ n p)
+
 pub says-name : (i : ℕ) (xs : List ℕ) (n : NameRecord) → All (λ b. b < 256) xs → name-at i xs ≡ Ok n → Says-name n xs
 says-name i [] n bs e = absurd (refused-not _ n e)
-says-name i (h ∷ xs) n bs e = go (ltb 0 (length xs) && leb (length xs) 64) refl e
-  where
-    go : (b : Bool) → (ltb 0 (length xs) && leb (length xs) 64) ≡ b → _≡_ {A = Result NameRecord Fault} (cond b (Ok (record { charset = field 8 0 4 h; bytes = xs })) (Err (refusal-at ParameterMalformed i))) (Ok n) → Says-name n (h ∷ xs)
-    go false t p = absurd (refused-not _ n p)
-    go true t p =
-        let q : record { charset = field 8 0 4 h; bytes = xs } ≡ n = cc in
-        let b = bs .0 in
-        let (s, f) = and-parts (ltb 0 (length xs)) (leb (length xs) 64) t in
-        let parts : h ≡ field 8 0 4 h * 16 + h % 16 = omega arith in
-        subst (λ (m : NameRecord). Says-name m (h ∷ xs)) q (record {
-          free = h % 16;
-          halves = (omega arith, omega arith);
-          spelled = ap (λ (k : ℕ). k ∷ xs) parts;
-          some = ltb-true 0 (length xs) s;
-          few = leb-true (length xs) 64 f;
-        })
+says-name i (h ∷ xs) n bs e =
+    let (is, some, few) = name-read i h xs n e in
+    let b = bs .0 in
+    let parts : h ≡ field 8 0 4 h * 16 + h % 16 = omega arith in
+    subst (λ (m : NameRecord). Says-name m (h ∷ xs)) is (record {
+      free = h % 16;
+      halves = (omega arith, omega arith);
+      spelled = ap (λ (k : ℕ). k ∷ xs) parts;
+      some = some;
+      few = few;
+    })
 
 pub name-said : (i : ℕ) (xs : List ℕ) (n : NameRecord) → Says-name n xs → name-at i xs ≡ Ok n
 name-said i xs n s =

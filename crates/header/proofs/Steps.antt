@@ -19,8 +19,9 @@ use Rattle.header.specs.Params.{mark-in, long-extent, extent-of, Part, first-w
 use Rattle.header.specs.Finds.{refusal-at, FoundRecord, taken}
 use Rattle.header.specs.Headers.{and-then, part-at, params-from}
 use Rattle.header.specs.declared.kinds.Kind.{Kind}
+use Rattle.header.proofs.Chains.{none-not, passed, then-same, then-go, was-some, some-ok}
 
--- an option that is not none
+-- data that begin behind the first byte
 abbrev Ahead : Option (ℕ × ℕ) → Type 0
 Ahead None = Unit {0}
 Ahead (Some e) = 0 < e .0
@@ -39,13 +40,8 @@ ahead : (xs : List ℕ) → Ahead (extent-of xs)
 ahead [] = tt
 ahead (h ∷ xs) = chosen (ltb (mark-in h) 3) _ _ (omega arith) (long-ahead xs)
 
--- what a test lets through
-pub passed : (b : Bool) (q p : Part) → cond b (Some q) None ≡ Some p → (b ≡ true) × (q ≡ p)
-passed true q p e = (refl, cc)
-passed false q p e = let z : _≡_ {A = ℕ} 0 1 = cc in absurd (omega arith)
-
 shorter-within : (xs : List ℕ) (o : Option (ℕ × ℕ)) (p : Part) → Ahead o → first-within xs o ≡ Some p → length (p .rest) < length xs
-shorter-within xs None p a e = let z : _≡_ {A = ℕ} 0 1 = cc in absurd (omega arith)
+shorter-within xs None p a e = absurd (none-not p e)
 shorter-within xs (Some d) p a e =
     let (t, q) = passed (leb (d .0 + d .1) (length xs)) _ p e in
     omega (arith, leb-true (d .0 + d .1) (length xs) t, ap (λ (r : Part). length (r .rest)) q, length-drop (d .0 + d .1) xs)
@@ -53,15 +49,6 @@ shorter-within xs (Some d) p a e =
 -- what follows a parameter is shorter than what it begins
 pub shorter : (xs : List ℕ) (p : Part) → first-of xs ≡ Some p → length (p .rest) < length xs
 shorter xs p e = shorter-within xs (extent-of xs) p (ahead xs) e
-
--- two ways to go on that agree on what was read
-pub then-same : {T U : Type 0} (r : Result T Fault) (f g : T → Result U Fault) → ((x : T) → r ≡ Ok x → f x ≡ g x) → and-then r f ≡ and-then r g
-then-same (Ok x) f g h = h x refl
-then-same (Err e) f g h = refl
-
-pub found-part : (i : ℕ) (o : Option Part) (p : Part) → okOr o (refusal-at ParameterPastEnd i) ≡ Ok p → o ≡ Some p
-found-part i None p e = let z : _≡_ {A = ℕ} 0 1 = cc in absurd (omega arith)
-found-part i (Some q) p e = cc
 
 -- more fuel than the length changes nothing
 pub enough : (m n : ℕ) (k : Kind) (i : ℕ) (xs : List ℕ) (f : FoundRecord) → length xs ≤ m → length xs ≤ n → params-from m k i xs f ≡ params-from n k i xs f
@@ -72,11 +59,11 @@ enough (suc m) zero k i [] f h g = refl
 enough (suc m) zero k i (x ∷ xs) f h g = absurd (omega arith)
 enough (suc m) (suc n) k i [] f h g = refl
 enough (suc m) (suc n) k i (x ∷ xs) f h g =
-    then-same (part-at i (x ∷ xs)) _ _ λ p e. then-same (taken k i p f) _ _ λ r e′. let l = shorter (x ∷ xs) p (found-part i (first-of (x ∷ xs)) p e) in enough m n k _ (p .rest) r (omega arith) (omega arith)
+    then-same (part-at i (x ∷ xs)) _ _ λ p e. then-same (taken k i p f) _ _ λ r e′. let l = shorter (x ∷ xs) p (was-some (first-of (x ∷ xs)) _ p e) in enough m n k _ (p .rest) r (omega arith) (omega arith)
 
 -- one parameter and then the rest
 pub one-more : (k : Kind) (i : ℕ) (xs : List ℕ) (f g : FoundRecord) (p : Part) → Some p ≡ first-of xs → Ok g ≡ taken k i p f → 0 < length xs → params-from (length (p .rest)) k (i + (length xs - length (p .rest))) (p .rest) g ≡ params-from (length xs) k i xs f
 one-more k i [] f g p e t h = absurd (omega arith)
 one-more k i (x ∷ xs) f g p e t h =
     let s = shorter (x ∷ xs) p (sym e) in
-    enough (length (p .rest)) (length xs) k _ (p .rest) g (omega arith) (omega arith) ∙ ap (λ (r : Result FoundRecord Fault). and-then r (λ r′. params-from (length xs) k (i + (length (x ∷ xs) - length (p .rest))) (p .rest) r′)) t ∙ ap (λ (o : Option Part). and-then (okOr o (refusal-at ParameterPastEnd i)) (λ q. and-then (taken k i q f) (λ r′. params-from (length xs) k (i + (length (x ∷ xs) - length (q .rest))) (q .rest) r′))) e
+    enough (length (p .rest)) (length xs) k _ (p .rest) g (omega arith) (omega arith) ∙ sym (then-go _ _ p _ (some-ok (first-of (x ∷ xs)) _ p (sym e)) (then-go _ _ g _ (sym t) refl))

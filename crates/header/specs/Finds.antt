@@ -18,14 +18,15 @@ use Rattle.std.specs.declared.option.Option.{Option}
 use Rattle.std.specs.declared.option.Option.the-variants.{Some, None}
 use Rattle.std.specs.declared.result.Result.{Result}
 use Rattle.std.specs.declared.result.Result.the-variants.{Ok, Err}
+use Rattle.header.specs.Names.{NameRecord}
 use Rattle.header.specs.Params.{Part}
 use Rattle.header.specs.declared.kinds.Category.{Category}
-use Rattle.header.specs.declared.kinds.Found.{Found}
+use Rattle.header.specs.declared.parts.Found.{Found}
 use Rattle.header.specs.declared.kinds.Kind.{Kind}
 use Rattle.header.specs.declared.kinds.Kind.the-variants.{Image, Update}
 use Rattle.header.specs.declared.kinds.Label.{Label}
-use Rattle.header.specs.declared.kinds.Meaning.{Meaning}
-use Rattle.header.specs.declared.kinds.Meaning.the-variants.{ExpireTime, TriggerTime, VersionNumber, ContentName, CategorySlide, Skipped}
+use Rattle.header.specs.declared.parts.Meaning.{Meaning}
+use Rattle.header.specs.declared.parts.Meaning.the-variants.{ExpireTime, TriggerTime, VersionNumber, ContentName, CategorySlide, Skipped}
 
 -- a refusal by this layer
 abbrev pub refusal-at : Cause → ℕ → Fault
@@ -39,11 +40,6 @@ common id = cond (eqb id 0x05) TriggerTime (cond (eqb id 0x0C) ContentName (cond
 abbrev pub meaning-of : Kind → ℕ → Meaning
 meaning-of Image id = cond (eqb id 0x04) ExpireTime (cond (eqb id 0x06) VersionNumber (common id))
 meaning-of Update id = common id
-
--- a name: its character set and its bytes
-pub record NameRecord : Type 0 where
-  pub charset : ℕ
-  pub bytes : List ℕ
 
 -- what the parameters gave so far
 pub record FoundRecord : Type 0 where

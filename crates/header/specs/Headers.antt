@@ -17,10 +17,11 @@ use Rattle.std.specs.declared.result.Result.{Result}
 use Rattle.std.specs.declared.result.Result.the-variants.{Ok, Err}
 use Rattle.header.specs.Cores.{core-in, kind-of, body-fits}
 use Rattle.header.specs.Params.{Part, first-of}
-use Rattle.header.specs.Finds.{refusal-at, NameRecord, FoundRecord, taken, found-of, name-of-label}
+use Rattle.header.specs.Finds.{refusal-at, FoundRecord, taken, found-of, name-of-label}
+use Rattle.header.specs.Names.{NameRecord}
 use Rattle.header.specs.declared.kinds.Category.{Category}
 use Rattle.header.specs.declared.kinds.Core.{Core}
-use Rattle.header.specs.declared.kinds.Found.{Found}
+use Rattle.header.specs.declared.parts.Found.{Found}
 use Rattle.header.specs.declared.kinds.Header.{Header}
 use Rattle.header.specs.declared.kinds.Kind.{Kind}
 use Rattle.header.specs.declared.kinds.Kind.the-variants.{Image, Update}

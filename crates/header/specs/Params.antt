@@ -9,7 +9,7 @@ use Rattle.packed.specs.Bits.{field, whole}
 use Rattle.std.specs.Options.{mapped}
 use Rattle.std.specs.declared.option.Option.{Option}
 use Rattle.std.specs.declared.option.Option.the-variants.{Some, None}
-use Rattle.header.specs.declared.kinds.Parameter.{Parameter}
+use Rattle.header.specs.declared.parts.Parameter.{Parameter}
 
 -- the two parts of a parameter's first byte
 abbrev pub mark-in : ℕ → ℕ

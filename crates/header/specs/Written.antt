@@ -15,13 +15,14 @@ use Rattle.std.specs.declared.option.Option.{Option}
 use Rattle.std.specs.declared.option.Option.the-variants.{Some, None}
 use Rattle.std.specs.declared.result.Result.{Result}
 use Rattle.std.specs.declared.result.Result.the-variants.{Ok, Err}
-use Rattle.header.specs.Finds.{meaning-of, NameRecord}
+use Rattle.header.specs.Finds.{meaning-of}
+use Rattle.header.specs.Names.{NameRecord}
 use Rattle.header.specs.Headers.{HeaderRecord}
 use Rattle.header.specs.declared.kinds.Category.{Category}
 use Rattle.header.specs.declared.kinds.Kind.{Kind}
 use Rattle.header.specs.declared.kinds.Kind.the-variants.{Image, Update}
-use Rattle.header.specs.declared.kinds.Meaning.{Meaning}
-use Rattle.header.specs.declared.kinds.Meaning.the-variants.{ExpireTime, TriggerTime, VersionNumber, ContentName, CategorySlide, Skipped}
+use Rattle.header.specs.declared.parts.Meaning.{Meaning}
+use Rattle.header.specs.declared.parts.Meaning.the-variants.{ExpireTime, TriggerTime, VersionNumber, ContentName, CategorySlide, Skipped}
 
 -- how a parameter gives the length of its data: by a mark m of 0, 1 or 2, or behind mark 3 in 7 bits or in 15
 pub data Form : Type 0 where

@@ -23,7 +23,7 @@ pub fn unpack(b0: u8, b1: u8, b2: u8, b3: u8, b4: u8, b5: u8, b6: u8) -> Core
 
 impl Core {
     // What the content type and subtype say that the header is for, or none.
-    pub fn kind(&self) -> Option<Kind>
+    pub(crate) fn kind(&self) -> Option<Kind>
         ensures { λ r. ⌜ r ≡ kind-of (now (self .entry) .«content_type») (now (self .entry) .subtype) ⌝ }
     {
         match (self.content_type, self.subtype) {

@@ -1,4 +1,4 @@
-// What a header is for, and the numbers that its parts are made of.
+// Headers as they are read: what each is for, and every value that it holds.
 use moment::times::Time;
 
 // What a header announces.
@@ -26,14 +26,6 @@ pub struct Category {
     pub slide: u8,
 }
 
-// A parameter: its data as a part of the input, and what follows it.
-#[derive(Clone, Copy)]
-pub struct Parameter<'a> {
-    pub id: u8,
-    pub bytes: &'a [u8],
-    pub rest: &'a [u8],
-}
-
 // A name as it stands in a header: its character set, and its bytes as a part of the input.
 #[derive(Clone, Copy)]
 pub struct Label<'a> {
@@ -41,29 +33,7 @@ pub struct Label<'a> {
     pub bytes: &'a [u8],
 }
 
-// What the parameters gave so far.
-#[derive(Clone, Copy)]
-pub struct Found<'a> {
-    pub expire: Option<Time>,
-    pub trigger: Option<Time>,
-    pub version: Option<u8>,
-    pub name: Option<Label<'a>>,
-    pub category: Option<Category>,
-}
-
-// What a parameter stands for.
-#[derive(Clone, Copy)]
-pub enum Meaning {
-    ExpireTime,
-    TriggerTime,
-    VersionNumber,
-    ContentName,
-    CategorySlide,
-    // not known, or without meaning in an update
-    Skipped,
-}
-
-// Every value of a header.
+// Every value of a header. What was not given is none; an update never gives expire time or version.
 #[derive(Clone, Copy)]
 pub struct Header<'a> {
     pub kind: Kind,

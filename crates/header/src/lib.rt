@@ -2,23 +2,28 @@
 ghost use mathlib.Core.Path.{_≡_};
 ghost use Prim.Native.Nat.{_+_, _<_};
 ghost use lib.ListN.{length};
+ghost use Rattle.std.specs.Vec.{made};
 ghost use Rattle.header.specs.Finds.{found-of};
 ghost use Rattle.header.specs.Headers.{params-of, seen-found, completed, seen, read-with, header-of};
+ghost use Rattle.header.specs.Sound.{Sound};
 ghost use Rattle.header.specs.Written.{Header-law};
 
 mod cores;
+pub mod figures;
 mod finds;
 pub mod kinds;
+pub mod names;
 mod params;
+mod parts;
 
 use cores::body_fits;
 use cores::unpack;
 use finds::refused;
 use kinds::Core;
-use kinds::Found;
 use kinds::Header;
 use kinds::Kind;
 use params::first;
+use parts::Found;
 use refusal::Fault;
 use refusal::causes::Cause;
 
@@ -101,6 +106,7 @@ fn read_with<'a>(
 // What the bytes say as a header, for slots of that size.
 pub fn read_header<'a>(bytes: &'a [u8], slot_size: u32) -> Result<Header<'a>, Fault>
     ensures value { λ r. ⌜ seen r ≡ header-of (now (bytes .entry)) «slot_size» ⌝ }
+    ensures sound { λ r. ⌜ made (seen r) (Sound «slot_size») ⌝ }
     ensures law { λ r. ⌜ Header-law (now (bytes .entry)) «slot_size» (seen r) ⌝ }
 {
     let [b0, b1, b2, b3, b4, b5, b6, extension @ ..] = bytes else {

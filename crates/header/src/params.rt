@@ -3,7 +3,7 @@ ghost use mathlib.Core.Path.{_≡_};
 ghost use Prim.Native.Nat.{_<_};
 ghost use Rattle.std.specs.Options.{Cases};
 ghost use Rattle.header.specs.Params.{long-extent, extent-of, first-of, seen-first};
-use crate::kinds::Parameter;
+use crate::parts::Parameter;
 
 // Behind mark 3: a flag bit, then the length in 7 or in 15 bits.
 fn long_extent(bytes: &[u8]) -> Option<(usize, usize)>

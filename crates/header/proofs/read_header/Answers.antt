@@ -11,13 +11,17 @@ use Rattle.refusal.specs.declared.causes.Cause.the-variants.{HeaderCut}
 use Rattle.std.proofs.shelf.Elements.{all-from-getD}
 use Rattle.std.proofs.shelf.Lists.{take-rest}
 use Rattle.std.proofs.shelf.Tests.{le-leb, lt-leb, cond-true, cond-false}
+use Rattle.std.specs.Vec.{made}
 use Rattle.std.specs.declared.result.Result.{Result}
 use Rattle.std.specs.declared.result.Result.the-variants.{Ok, Err}
 use Rattle.header.specs.Cores.{core-in}
 use Rattle.header.specs.Finds.{refusal-at}
 use Rattle.header.specs.Headers.{HeaderRecord, and-then, demand, read-with, header-of}
+use Rattle.header.specs.Sound.{Sound}
 use Rattle.header.specs.Written.{Header-law}
 use Rattle.header.specs.declared.kinds.Core.{Core}
+use Rattle.header.proofs.Chains.{then-go, met}
+use Rattle.header.proofs.Facts.{header-sound}
 use Rattle.header.proofs.Laws.{header-law}
 use Rattle.header.proofs.read_header.Needs as need
 
@@ -39,12 +43,22 @@ split xs slot r core h e is =
     is
     ∙ ap (λ (c : Core). read-with c (length xs) (take (length xs - 7) (drop 7 xs)) slot) (e ∙ ap (λ (ys : List ℕ). core-in (whole ys)) (seven xs h))
     ∙ ap (λ (ys : List ℕ). read-with (core-in (whole (take 7 xs))) (length xs) ys slot) (take-rest xs 7)
-    ∙ sym (ap (λ (s : Result (Unit {0}) Fault). and-then s (λ u. read-with (core-in (whole (take 7 xs))) (length xs) (drop 7 xs) slot)) (cond-true (leb 7 (length xs)) _ _ (le-leb 7 (length xs) h)))
+    ∙ sym (then-go _ _ tt _ (met _ HeaderCut (le-leb 7 (length xs) h)) refl)
 
--- the law of what was read
-lawful : (xs : List ℕ) (slot : ℕ) (r : Result HeaderRecord Fault) → ((i : ℕ) → getD xs i 0 < 256) → r ≡ header-of xs slot → Header-law xs slot r
-lawful xs slot r bytes e =
-    subst (Header-law xs slot) (sym e) (header-law xs slot (all-from-getD (λ b. b < 256) xs 0 (λ i l. bytes i)))
+-- an answer that is what the definition gives keeps to the law
+record Read (xs : List ℕ) (slot : ℕ) (r : Result HeaderRecord Fault) : Type 0 where
+  sound : made r (Sound slot)
+  law : Header-law xs slot r
+
+sound-read : (xs : List ℕ) (slot : ℕ) (r : Result HeaderRecord Fault) → r ≡ header-of xs slot → made r (Sound slot)
+sound-read xs slot (Ok h) e = header-sound xs slot h (sym e)
+sound-read xs slot (Err f) e = tt
+
+read : (xs : List ℕ) (slot : ℕ) (r : Result HeaderRecord Fault) → ((i : ℕ) → getD xs i 0 < 256) → r ≡ header-of xs slot → Read xs slot r
+read xs slot r bytes e = record {
+  sound = sound-read xs slot r e;
+  law = subst (Header-law xs slot) (sym e) (header-law xs slot (all-from-getD (λ b. b < 256) xs 0 (λ i l. bytes i)));
+}
 
 cut-short : (xs : List ℕ) (slot : ℕ) (e : Fault) → length xs < 7 → e ≡ refusal-at HeaderCut 0 → _≡_ {A = Result HeaderRecord Fault} (Err e) (header-of xs slot)
 unfolding header-of
@@ -55,10 +69,12 @@ pub returns-in-rest : need.returns-in-rest
 returns-in-rest c =
     let short : length (c .args .bytes .now) < 7 = search needs in
     let value = cut-short (c .args .bytes .now) (c .args .slot-size) (c .refused .result) short (c .refused .ensures) in
-    record { value = value; law = lawful (c .args .bytes .now) (c .args .slot-size) _ (λ i. omega (arith, c .typed .bytes i)) value }
+    let rest = read (c .args .bytes .now) (c .args .slot-size) _ (λ i. omega (arith, c .typed .bytes i)) value in
+    record { value = value; sound = rest .sound; law = rest .law }
 
 pub returns : need.returns
 returns c =
     let long : 7 ≤ length (c .args .bytes .now) = search needs in
     let value = split (c .args .bytes .now) (c .args .slot-size) _ _ long (c .unpack-core .ensures) (c .read-with .ensures) in
-    record { value = value; law = lawful (c .args .bytes .now) (c .args .slot-size) _ (λ i. omega (arith, c .typed .bytes i)) value }
+    let rest = read (c .args .bytes .now) (c .args .slot-size) _ (λ i. omega (arith, c .typed .bytes i)) value in
+    record { value = value; sound = rest .sound; law = rest .law }

@@ -11,7 +11,8 @@ use Rattle.std.proofs.shelf.Lists.{take-rest}
 use Rattle.std.proofs.shelf.Tests.{lt-ltb, le-leb, and-from, cond-true}
 use Rattle.std.specs.declared.result.Result.{Result}
 use Rattle.std.specs.declared.result.Result.the-variants.{Ok, Err}
-use Rattle.header.specs.Finds.{NameRecord, name-at}
+use Rattle.header.specs.Finds.{name-at}
+use Rattle.header.specs.Names.{NameRecord}
 use Rattle.header.proofs.finds.label.Needs as need
 
 -- a byte and what follows it in the slice, read as a name
