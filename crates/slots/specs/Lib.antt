@@ -1,3 +1,4 @@
 pub mod Segments
 pub mod Slides
 pub mod Seen
+pub mod Searches

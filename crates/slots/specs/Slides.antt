@@ -37,6 +37,26 @@ abbrev pub image-of : HeaderRecord → Image
 image-of h =
     record { size = h .body-size; subtype = h .subtype; name = h .name; version = valueOr (h .version) 0; expire = h .expire; trigger = h .trigger; category = category-of (h .category) }
 
+-- whether two of them say the same
+abbrev pub same-time : Option Time → Option Time → Bool
+same-time None None = true
+same-time None (Some b) = false
+same-time (Some a) None = false
+same-time (Some Now) (Some Now) = true
+same-time (Some Now) (Some (At n)) = false
+same-time (Some (At m)) (Some Now) = false
+same-time (Some (At m)) (Some (At n)) = eqb m n
+
+abbrev pub same-category : Option Category → Option Category → Bool
+same-category None None = true
+same-category None (Some b) = false
+same-category (Some a) None = false
+same-category (Some a) (Some b) = eqb (a .category) (b .category) && eqb (a .slide) (b .slide)
+
+abbrev pub same-image : Image → Image → Bool
+same-image a b =
+    eqb (a .size) (b .size) && (eqb (a .subtype) (b .subtype) && (same-name (a .name) (b .name) && (eqb (a .version) (b .version) && (same-time (a .expire) (b .expire) && (same-time (a .trigger) (b .trigger) && same-category (a .category) (b .category))))))
+
 -- an object that arrives under a TransportId, with its accession number
 pub record Object : Type 0 where
   pub transport : ℕ
@@ -92,6 +112,12 @@ abbrev pub comes : ℕ → Slot → Bool
 comes transport free = false
 comes transport (arriving o) = eqb (o .transport) transport
 comes transport (held x) = false
+
+-- its object arrives under this TransportId from a header that said the same
+abbrev pub comes-again : ℕ → Image → Slot → Bool
+comes-again transport i free = false
+comes-again transport i (arriving o) = eqb (o .transport) transport && same-image (o .image) i
+comes-again transport i (held x) = false
 
 -- it holds the slide of this name
 abbrev pub named : NameRecord → Slot → Bool

@@ -55,7 +55,11 @@ impl Progress {
     pub fn landing(&self, segment: Segment) -> Landing
         ensures { λ r. ⌜ r ≡ landing (now (self .entry)) segment ⌝ }
     {
-        let Segment { number, last, length } = segment;
+        let Segment {
+            number,
+            last,
+            length,
+        } = segment;
         let size = self.size as usize;
         if number > 63 || length == 0 {
             return Landing::Misfit;
@@ -79,7 +83,11 @@ impl Progress {
         requires fits { ⌜ fits (now self .piece) (now self .size) (segment .number) (segment .last) (segment .length) ≡ true ⌝ }
         ensures { λ _. ⌜ now (self .exit) ≡ grown (now (self .entry)) segment ⌝ }
     {
-        let Segment { number, last, length } = segment;
+        let Segment {
+            number,
+            last,
+            length,
+        } = segment;
         self.taken |= 1 << number;
         if !last {
             self.piece = Some(length);
