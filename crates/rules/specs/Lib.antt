@@ -1,0 +1,10 @@
+pub mod Calls
+pub mod Triggers
+pub mod Worlds
+pub mod Headers
+pub mod Assembly
+pub mod Clocks
+pub mod Questions
+pub mod Runs
+pub mod Ledgers
+pub mod Laws

@@ -1,0 +1,2 @@
+// The receiver's rules as definitions, and the laws of whole runs proved of them.
+pub mod answers;
