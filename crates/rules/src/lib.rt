@@ -1,2 +1,3 @@
 // The receiver's rules as definitions, and the laws of whole runs proved of them.
 pub mod answers;
+pub mod laws;

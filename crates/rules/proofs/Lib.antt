@@ -1,0 +1,4 @@
+mod Splits
+mod Readings
+mod Moments
+mod Stand
