@@ -1,4 +1,5 @@
 mod Splits
 mod Readings
 mod Moments
+pub mod Passes
 mod Stand

@@ -4,6 +4,7 @@ pub mod Worlds
 pub mod Headers
 pub mod Assembly
 pub mod Clocks
+pub mod Passes
 pub mod Questions
 pub mod Runs
 pub mod Ledgers
