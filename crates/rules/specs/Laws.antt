@@ -1,22 +1,19 @@
 -- The laws of whole runs.
 use mathlib.Core.Path.{_≡_}
-use mathlib.Core.Bool.{Bool, true, false}
+use mathlib.Core.Bool.{true}
 use mathlib.Core.List.{List, [], _∷_, _++_, map}
-use Prim.Native.Nat.{ℕ, zero, suc, _+_, _-_, _≤_, _<_}
-use lib.ListN.{length, getD}
+use Prim.Native.Nat.{ℕ, suc, _+_, _≤_, _<_}
 use Rattle.display.specs.Meaning.{Meaning, Card, Keeps, accepts}
-use Rattle.header.specs.Names.{NameRecord}
 use Rattle.moment.specs.Field.{time-of}
 use Rattle.moment.specs.declared.times.Time.the-variants.{At}
 use Rattle.rules.specs.Calls.{Call, header, segment, time, find-name, next-place, body-of, card, Reply, answered, counted, refused, found, placed, bytes, shows}
 use Rattle.rules.specs.Ledgers.{Ledger, blank, ledger}
 use Rattle.rules.specs.Runs.{opened, after, replies, step}
+use Rattle.rules.specs.Soundness.{Sound}
 use Rattle.rules.specs.Triggers.{Effect}
-use Rattle.rules.specs.Worlds.{State, World, slot-at}
+use Rattle.rules.specs.Worlds.{World}
 use Rattle.rules.specs.declared.answers.Answer.{Answer}
 use Rattle.rules.specs.declared.answers.Answer.the-variants.{Taken, Repeat, Filed, Shown, Late, Changed, Refused}
-use Rattle.shelf.specs.declared.entries.Entry.{Entry}
-use Rattle.slots.specs.Slides.{Slot, held, Slide, ends, number-in}
 use Rattle.std.specs.shelf.Lists.{All}
 use Rattle.std.specs.declared.option.Option.{Option}
 use Rattle.std.specs.declared.option.Option.the-variants.{Some, None}
@@ -90,22 +87,6 @@ module _ (m : Meaning) (size : ℕ) (memory : List ℕ) where
   abbrev pub Shows-accepted : Type 0
   Shows-accepted = (cs : List Call) → All (λ x. accepts m (x .number) (x .moment) (x .body) ≡ true) (account cs .history)
 
--- what holds of a receiver's state after every call
-pub record Sound (s : State) : Type 0 where
-  -- waiting triggers ascend and lie above the clock
-  pub ascending : Never-falls (map (λ (e : Entry ℕ). e .key) (s .waiting))
-  pub ahead : All (λ (e : Entry ℕ). s .clock < e .key) (s .waiting)
-  -- each is for a held slide, and a slide has at most one
-  pub for-held : All (λ (e : Entry ℕ). (x : Slide) × (slot-at s (e .load) ≡ held x)) (s .waiting)
-  pub one-each : (i j : ℕ) → i < j → j < length (s .waiting) → getD (map (λ (e : Entry ℕ). e .load) (s .waiting)) i 0 ≡ getD (map (λ (e : Entry ℕ). e .load) (s .waiting)) j 0 → ⊥
-  -- nothing has expired by the clock
-  pub alive : All (λ x. ends (s .clock) x ≡ false) (s .slots)
-  -- names of held slides are distinct
-  pub names-distinct : (j k : ℕ) (x y : Slide) → slot-at s j ≡ held x → slot-at s k ≡ held y → x .name ≡ y .name → j ≡ k
-  -- numbers are distinct, above 0 and were given
-  pub numbers-given : (k : ℕ) → number-in (slot-at s k) ≤ s .given
-  pub numbers-distinct : (j k : ℕ) → 0 < number-in (slot-at s j) → number-in (slot-at s j) ≡ number-in (slot-at s k) → j ≡ k
-
 -- the numbers that headers were given, in order
 abbrev pub on-taken : Reply → List ℕ → List ℕ
 on-taken (answered (Taken n)) ns = n ∷ ns
@@ -145,6 +126,7 @@ Count-on n (k ∷ ks) = (k ≡ suc n) × Count-on k ks
 abbrev pub Numbers-rise : Meaning → ℕ → List ℕ → Type 0
 Numbers-rise m size memory = (cs : List Call) → Count-on 0 (given-in cs (answers m size memory cs))
 
+-- what holds of a state holds after every list of calls
 abbrev pub All-sound : Meaning → ℕ → List ℕ → Type 0
 All-sound m size memory = (cs : List Call) → Sound (ending m size memory cs .state)
 

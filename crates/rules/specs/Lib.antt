@@ -6,6 +6,7 @@ pub mod Assembly
 pub mod Clocks
 pub mod Passes
 pub mod Questions
+pub mod Soundness
 pub mod Runs
 pub mod Ledgers
 pub mod Laws
