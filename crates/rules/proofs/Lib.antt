@@ -1,5 +1,9 @@
 mod Splits
 mod Readings
-mod Moments
+pub mod Moments
 pub mod Passes
+mod Pairs
+pub mod Finds
+mod Pieces
+mod Follows
 mod Stand
