@@ -6,4 +6,6 @@ mod Pairs
 pub mod Finds
 mod Pieces
 mod Follows
+mod Sounds
+mod Enters
 mod Stand

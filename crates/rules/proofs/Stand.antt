@@ -8,13 +8,16 @@ use Rattle.moment.specs.Field.{time-of}
 use Rattle.moment.specs.declared.times.Time.the-variants.{At}
 use Rattle.rules.specs.Calls.{Call, time, Reply, counted}
 use Rattle.rules.specs.Clocks.{walk, walked}
-use Rattle.rules.specs.Laws.{Chains, Alike, Run-laws, Laws-stand, Climbs, Name-moments, ending, answers, account, total}
+use Rattle.rules.specs.Laws.{Chains, Moments-never-fall, Run-laws, Laws-stand, ending, answers, account}
 use Rattle.rules.specs.Ledgers.{Ledger, ledger, entered, pass, blank}
 use Rattle.rules.specs.Runs.{opened, after, replies, step}
 use Rattle.rules.specs.Worlds.{World}
 use Rattle.std.specs.declared.result.Result.the-variants.{Ok}
+use Rattle.rules.proofs.Enters.{runs, opens}
+use Rattle.rules.proofs.Follows.{newest, Follows}
 use Rattle.rules.proofs.Moments.{ledger-fine, settles, all-mono}
 use Rattle.rules.proofs.Readings.{accepted, Climbed, climbed, climbs-le, step-time, entered-time}
+use Rattle.rules.proofs.Sounds.{sound-open, sound-run, numbers-rise}
 use Rattle.rules.proofs.Splits.{after-append, replies-append, ledger-append}
 
 module _ (m : Meaning) (size : ℕ) (memory : List ℕ) (follows : (cs : List Call) → account m size memory cs .clock ≡ ending m size memory cs .state .clock) where
@@ -55,5 +58,27 @@ module _ (m : Meaning) (size : ℕ) (memory : List ℕ) (follows : (cs : List Ca
             ∙ sym (ledger-append before (time field ∷ rest) v blank))));
       }
 
+module _ (m : Meaning) (keeps : Keeps m) (size : ℕ) (memory : List ℕ) where
+  following : (cs : List Call) → Follows m (ending m size memory cs) (account m size memory cs)
+  following cs = runs m keeps cs (opened m size memory) blank (sound-open m size memory) (opens m keeps size memory)
+
+  moments : Moments-never-fall m size memory
+  moments cs =
+      let l : Ledger = account m size memory cs in
+      let g = ledger-fine cs (answers m size memory cs) blank (record { rising = tt; within = tt }) in
+      let r = following cs in
+      settles (m .settle) newest (λ a b h k. keeps .in-order a b h (omega (arith, keeps .lag-small))) (l .history) (g .rising)
+      (all-mono (λ x. x .moment ≤ l .clock) (λ x. x .moment ≤ newest) (λ x i. omega (arith, r .clock, r .early)) (l .history) (g .within))
+
+  pub run-laws : Run-laws m size memory
+  run-laws = record {
+    chains = chains m size memory (λ cs. following cs .clock);
+    card-is-last = λ cs. ap (λ (d : Meaning). d .card) (following cs .display);
+    moments-never-fall = moments;
+    shows-accepted = λ cs. following cs .accepted;
+    all-sound = λ cs. sound-run cs (opened m size memory) (sound-open m size memory);
+    numbers-rise = numbers-rise m size memory;
+  }
+
 pub laws : Laws-stand
-laws = ?
+laws m keeps size memory = run-laws m keeps size memory
