@@ -64,7 +64,9 @@ use Rattle.rules.proofs.Pairs.{Both, none, more}
 use Rattle.rules.proofs.Passes.{getD-vacate}
 use Rattle.rules.proofs.Pieces.{Piece, Pieces, Fits, fit, Tight, tight-inside, next-piece, added, completed}
 use Rattle.rules.proofs.Readings.{walk-clock}
-use Rattle.rules.proofs.Sounds.{sound-vacate, sound-filtered, sound-walk, sound-received, sound-filed, sound-categorised, slot-for-some, idle-undone, sound-open, sound-step}
+use Rattle.rules.proofs.Choices.{slot-for-some, idle-undone}
+use Rattle.rules.proofs.Kept.{sound-open, sound-step, sound-recategorised, held-named}
+use Rattle.rules.proofs.Sounds.{at-set, sound-vacate, sound-filtered, sound-walk, sound-received, sound-filed, sound-categorised}
 
 -- parts of memory beside a write
 part-is : (a k : ℕ) (m : List ℕ) → part a k m ≡ drop a (take (a + k) m)
@@ -129,13 +131,6 @@ noted-same n l = λ t. record { clock = l .clock; known = fun-ext same t; waitin
   where
     same : (i : ℕ) → cond (eqb i n) (l .known n) (l .known i) ≡ l .known i
     same i = cond-both (eqb i n) (l .known n) (l .known i) (λ y. y ≡ l .known i) (λ e. ap (l .known) (sym (eqb-true i n e))) (λ e. refl)
-
-at-set : (xs : List Slot) (k : ℕ) (x : Slot) → k < length xs → (j : ℕ) → ((j ≡ k) × (getD (set xs k x) j free ≡ x)) ⊎ ((j ≡ k → ⊥) × (getD (set xs k x) j free ≡ getD xs j free))
-at-set xs k x lt j = go (cases-eq j k)
-  where
-    go : (j ≡ k) ⊎ (j ≡ k → ⊥) → ((j ≡ k) × (getD (set xs k x) j free ≡ x)) ⊎ ((j ≡ k → ⊥) × (getD (set xs k x) j free ≡ getD xs j free))
-    go (inl e) = inl (e, ap (λ i. getD (set xs k x) i free) e ∙ getD-set-same xs k x free lt)
-    go (inr d) = inr (d, getD-set-other xs k j x free d)
 
 -- the state with slot k at x, and other numbers
 abbrev placed-state : ℕ → Slot → ℕ → ℕ → List (Entry ℕ) → List (Entry (ℕ × ℕ)) → State → State
@@ -299,7 +294,7 @@ module _ (m : Meaning) (keeps : Keeps m) where
       let w′ : World = with-state u w in
       let l′ : Ledger = leave (λ y. same-name (y .name) a) l in
       let g : Follows m w′ l′ = vacated m keeps w l sound h (named a) (λ y. same-name (y .name) a) (λ x y p q. ap (λ z. same-name z a) (sym p)) in
-      let sound′ : Sound u = sound-vacate (named a) s refl sound in
+      let sound′ : Sound u = sound-vacate (named a) s sound in
       let i′ : slot-at u k ≡ arriving o = getD-vacate (named a) (s .slots) k ∙ ap (λ x. cond (named a x) free x) i in
       let lt′ : k < length (u .slots) = omega (arith, sound .twelve, sound′ .twelve) in
       let e : o .progress .size ≡ o .image .size = O .4 in
@@ -325,7 +320,7 @@ module _ (m : Meaning) (keeps : Keeps m) where
       let l′ : Ledger = leave (λ y. same-name (y .name) a) l in
       let g : Follows m v l′ = files w l sound h k o i lt b in
       let sound′ : Sound t = sound-filed k o s i sound in
-      let lt′ : k < length (vacate (named a) s .slots) = omega (arith, sound .twelve, sound-vacate (named a) s refl sound .twelve) in
+      let lt′ : k < length (vacate (named a) s .slots) = omega (arith, sound .twelve, sound-vacate (named a) s sound .twelve) in
       let j : slot-at t k ≡ held (slide-of o) = getD-set-same (vacate (named a) s .slots) k (held (slide-of o)) free lt′ in
       let c : Option Category = o .image .category in
       let v′ : World = categorised c N v in
@@ -348,7 +343,7 @@ module _ (m : Meaning) (keeps : Keeps m) where
       let z : u .state .clock ≡ w .state .clock + n = walk-clock n w in
       let e : Follows m (expired t u) (leave (λ y. passed t (y .expire)) k) = vacated m keeps u k sound′ g (ends t) (λ y. passed t (y .expire)) (λ x y p q. ap (passed t) (sym q)) in
       let P : ℕ → Type 0 = λ x. Follows m (tick u) (happen (suc x) (leave (λ y. passed (suc x) (y .expire)) k)) in
-      subst P (sym (g .clock)) (fired m keeps (expired t u) (leave (λ y. passed t (y .expire)) k) (sound-vacate (ends t) (u .state) refl sound′) e t (omega (arith, z)))
+      subst P (sym (g .clock)) (fired m keeps (expired t u) (leave (λ y. passed t (y .expire)) k) (sound-vacate (ends t) (u .state) sound′) e t (omega (arith, z)))
 
   -- a call is followed by its answer
   abbrev Goes : Ledger → Call → Reply × World → Type 0
@@ -366,21 +361,9 @@ module _ (m : Meaning) (keeps : Keeps m) where
   on-told-update late n w l p q h = h
   on-told-update (wait t) n w l p q h = h
 
-  held-named : (s : State) (a : NameRecord) (k : ℕ) → first-slot (named a) (s .slots) ≡ Some k → (x : Slide) × (slot-at s k ≡ held x)
-  held-named s a k e = go (slot-at s k) refl (found-at (named a) (s .slots) k e .1)
-    where
-      go : (z : Slot) → slot-at s k ≡ z → named a z ≡ true → (x : Slide) × (slot-at s k ≡ held x)
-      go free i t = absurd (both-ways false refl t)
-      go (arriving o) i t = absurd (both-ways false refl t)
-      go (held x) i t = (x, i)
-
   recategorises : (c : Option Category) (n : ℕ) (w : World) (l : Ledger) → Sound (w .state) → Follows m w l → Follows m (recategorised c n w) l
   recategorises None n w l sound h = h
   recategorises (Some c) n w l sound h = categories-changed m keeps w l sound h (slides.real-category c) n
-
-  sound-recategorised : (c : Option Category) (k : ℕ) (w : World) (x : Slide) → slot-at (w .state) k ≡ held x → Sound (w .state) → Sound (recategorised c (x .number) w .state)
-  sound-recategorised None k w x i h = h
-  sound-recategorised (Some c) k w x i h = sound-categorised (slides.real-category c) k w x i h
 
   recategorised-slot : (c : Option Category) (n : ℕ) (w : World) (k : ℕ) → slot-at (recategorised c n w .state) k ≡ slot-at (w .state) k
   recategorised-slot None n w k = refl
@@ -482,7 +465,7 @@ module _ (m : Meaning) (keeps : Keeps m) where
       let o′ : Object = with-progress o (grown p g) in
       cond-both (complete (grown p g)) _ _ (λ (a : Answer × World). Goes l (segment t n last xs) (answered (a .0), a .1))
       (λ f.
-      let sound′ : Sound (u .state) = sound-received k o (grown p g) (w .state) i refl sound in
+      let sound′ : Sound (u .state) = sound-received (w .state) k o i sound (grown p g) refl in
       let N : ℕ = o .number in
       let y : Known = with-piece n xs (l .known N) in
       on-told-filing (verdict (w .state .clock) (o .image .trigger)) N (filed k o′ u) l _ _
@@ -509,7 +492,7 @@ module _ (m : Meaning) (keeps : Keeps m) where
       let u : World = expired t w in
       let l′ : Ledger = leave (λ y. passed t (y .expire)) l in
       let g : Follows m u l′ = vacated m keeps w l sound h (ends t) (λ y. passed t (y .expire)) (λ a y p q. ap (passed t) (sym q)) in
-      let sound′ : Sound (u .state) = sound-vacate (ends t) (w .state) refl sound in
+      let sound′ : Sound (u .state) = sound-vacate (ends t) (w .state) sound in
       fired m keeps (prepared t w) (start t l) (sound-filtered (λ e. leb t (e .key)) (u .state) sound′) (later-only m keeps u l′ sound′ g t) t ok
 
   clocked : (w : World) (l : Ledger) (xs : List ℕ) → Sound (w .state) → Follows m w l → Goes l (time xs) (time-step w xs)

@@ -6,6 +6,9 @@ mod Pairs
 pub mod Finds
 mod Pieces
 mod Follows
-mod Sounds
+pub mod Filters
+pub mod Sounds
+pub mod Choices
+pub mod Kept
 mod Enters
 mod Stand

@@ -17,7 +17,7 @@ use Rattle.rules.proofs.Enters.{runs, opens}
 use Rattle.rules.proofs.Follows.{newest, Follows}
 use Rattle.rules.proofs.Moments.{ledger-fine, settles, all-mono}
 use Rattle.rules.proofs.Readings.{accepted, Climbed, climbed, climbs-le, step-time, entered-time}
-use Rattle.rules.proofs.Sounds.{sound-open, sound-run, numbers-rise}
+use Rattle.rules.proofs.Kept.{sound-open, sound-run, numbers-rise}
 use Rattle.rules.proofs.Splits.{after-append, replies-append, ledger-append}
 
 module _ (m : Meaning) (size : ℕ) (memory : List ℕ) (follows : (cs : List Call) → account m size memory cs .clock ≡ ending m size memory cs .state .clock) where
