@@ -10,5 +10,6 @@ pub mod Filters
 pub mod Sounds
 pub mod Choices
 pub mod Kept
+pub mod Rooms
 mod Enters
 mod Stand
