@@ -1,2 +1,5 @@
 pub mod Numbers
 pub mod Changed
+pub mod Searched
+pub mod Vacated
+pub mod Sameness

@@ -2,3 +2,4 @@ pub mod Segments
 pub mod Slides
 pub mod Seen
 pub mod Searches
+pub mod Contents
