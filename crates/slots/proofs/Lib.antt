@@ -3,3 +3,5 @@ pub mod Changed
 pub mod Searched
 pub mod Vacated
 pub mod Sameness
+pub mod Memory
+pub mod Pieces

@@ -3,3 +3,4 @@ pub mod Slides
 pub mod Seen
 pub mod Searches
 pub mod Contents
+pub mod Pieces
