@@ -5,3 +5,5 @@ pub mod Vacated
 pub mod Sameness
 pub mod Memory
 pub mod Pieces
+pub mod Landings
+pub mod Laid

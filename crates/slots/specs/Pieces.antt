@@ -7,7 +7,7 @@ use lib.Dec.{eqb}
 use lib.ListN.{length, take, drop}
 use Rattle.packed.specs.Parts.{pasted}
 use Rattle.std.specs.shelf.Lists.{All}
-use Rattle.slots.specs.Segments.{landing, grown, complete}
+use Rattle.slots.specs.Segments.{landing, after-landing, complete}
 use Rattle.slots.specs.Slides.{fresh}
 use Rattle.slots.specs.declared.progress.Landing.{Landing}
 use Rattle.slots.specs.declared.progress.Landing.the-variants.{Misfit, Again, At}
@@ -54,14 +54,23 @@ abbrev pub begun : ℕ → List ℕ → Receipt
 begun B m = record { progress = fresh B; memory = m; laid = [] }
 
 -- a segment that fits is laid down at its offset of the body, which begins at base; any other changes nothing
-abbrev pub laid-at : Landing → ℕ → Sent → Receipt → Receipt
-laid-at Misfit base s r = r
-laid-at Again base s r = r
-laid-at (At o) base s r =
-    record { progress = grown (r .progress) (segment-of s); memory = pasted (r .memory) (base + o) (s .bytes); laid = record { number = s .number; offset = o; bytes = s .bytes } ∷ r .laid }
+abbrev pub memory-with : Landing → ℕ → List ℕ → List ℕ → List ℕ
+memory-with Misfit base bs m = m
+memory-with Again base bs m = m
+memory-with (At o) base bs m = pasted m (base + o) bs
+
+abbrev pub laid-with : Landing → Sent → List Piece-laid → List Piece-laid
+laid-with Misfit s xs = xs
+laid-with Again s xs = xs
+laid-with (At o) s xs = record { number = s .number; offset = o; bytes = s .bytes } ∷ xs
+
+-- what a segment leaves, by where it goes
+abbrev pub left-by : Landing → ℕ → Receipt → Sent → Receipt
+left-by l base r s =
+    record { progress = after-landing l (r .progress) (segment-of s); memory = memory-with l base (s .bytes) (r .memory); laid = laid-with l s (r .laid) }
 
 abbrev pub received : ℕ → Receipt → Sent → Receipt
-received base r s = laid-at (landing (r .progress) (segment-of s)) base s r
+received base r s = left-by (landing (r .progress) (segment-of s)) base r s
 
 -- one after the other
 abbrev pub received-all : ℕ → Receipt → List Sent → Receipt
@@ -86,7 +95,8 @@ pub record Laid-well (base B : ℕ) (m : List ℕ) (r : Receipt) : Type 0 where
   pub kept : All (λ (x : Piece-laid). part (base + x .offset) (length (x .bytes)) (r .memory) ≡ x .bytes) (r .laid)
   -- once all is there, the pieces in the order of their numbers are the body, and their lengths add up to its size
   pub whole : complete (r .progress) ≡ true → (gather (bytes-at (r .laid)) 64 ≡ part base B (r .memory)) × (lengths (bytes-at (r .laid)) 64 ≡ B)
-  -- memory outside the body is as it was
+  -- memory is as long as it was, and outside the body it is as it was
+  pub long : length (r .memory) ≡ length m
   pub before : take base (r .memory) ≡ take base m
   pub behind : drop (base + B) (r .memory) ≡ drop (base + B) m
 
