@@ -1,6 +1,6 @@
 -- Searches among the slots.
 use mathlib.Core.Bool.{Bool, cond}
-use mathlib.Core.List.{List, [], _∷_}
+use mathlib.Core.List.{List, [], _∷_, map}
 use Prim.Native.Nat.{ℕ, zero, suc, _+_}
 use lib.Dec.{eqb}
 use lib.ListN.{getD}
@@ -28,3 +28,7 @@ free-from xs (suc n) k = cond (is-free (getD xs k free)) (Some k) (free-from xs 
 -- the first free slot behind the one given last, which comes last itself
 abbrev pub first-free : List Slot → ℕ → Option ℕ
 first-free xs recent = free-from xs 12 (next recent)
+
+-- the slots that pass the test are freed
+abbrev pub vacated : (Slot → Bool) → List Slot → List Slot
+vacated test xs = map (λ x. cond (test x) free x) xs

@@ -29,6 +29,7 @@ state-of (Held h) n = held (slide-in h n)
 abbrev pub seen : Slot → slides.Slot
 seen s = state-of (s .state) (name-of (s .name))
 
+-- an event of the code at a slot with the name n
 abbrev pub event-of : Event → NameRecord → slides.Event
 event-of (Header a) n = slides.header (object-of a n)
 event-of (Segment s) n = slides.segment s
@@ -37,3 +38,10 @@ event-of Clearing n = slides.clearing
 
 abbrev pub all-seen : Slots → List slides.Slot
 all-seen s = map seen (s .records)
+
+-- the name beside the state, of a free slot too
+abbrev pub label : Slot → NameRecord
+label s = name-of (s .name)
+
+abbrev pub all-names : Slots → List NameRecord
+all-names s = map label (s .records)

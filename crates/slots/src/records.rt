@@ -1,4 +1,6 @@
 // The records of the slots: numbers by state, with the name's bytes beside them.
+ghost use mathlib.Core.Path.{_≡_};
+ghost use lib.ListN.{length};
 use crate::progress::Progress;
 use crate::progress::Segment;
 use header::kinds::Category;
@@ -38,7 +40,7 @@ pub enum State {
 // What moves a slot.
 #[derive(Clone, Copy)]
 pub enum Event {
-    // a header takes the slot for its object
+    // a header takes the slot for its object, under the name that the slot has been given
     Header(Arrival),
     // the object takes a segment
     Segment(Segment),
@@ -59,4 +61,5 @@ pub struct Slot {
 #[derive(Clone, Copy)]
 pub struct Slots {
     pub records: [Slot; 12],
+    ghost twelve: { length records ≡ 12 },
 }
