@@ -38,7 +38,8 @@ use Rattle.rules.specs.Ledgers.{Ledger, Known, body-in, leave, happen, instant
 use Rattle.rules.specs.Runs.{opened, after, replies, step}
 use Rattle.rules.specs.Soundness.{Sound, Slot-sound}
 use Rattle.rules.specs.Triggers.{Verdict, nothing, effect, late, wait, verdict}
-use Rattle.rules.specs.Worlds.{State, World, slot-at, part, holding, with-state, fits-memory, vacate, undone, fire, armed, categorised}
+use Rattle.rules.specs.Worlds.{State, World, slot-at, holding, with-state, fits-memory, vacate, undone, fire, armed, categorised}
+use Rattle.slots.specs.Pieces.{part}
 use Rattle.rules.specs.declared.answers.Answer.{Answer}
 use Rattle.rules.specs.declared.answers.Answer.the-variants.{Taken, Repeat, Filed, Shown, Late, Changed, Refused}
 use Rattle.shelf.specs.declared.entries.Entry.{Entry}
@@ -62,7 +63,7 @@ use Rattle.rules.proofs.Finds.{found-at, on-some-both, on-arriving-both}
 use Rattle.rules.proofs.Follows.{newest, Stands, Holds, Comes, Knows, Follows, timed, holds, vacated, fired, later-only, categories-changed, arms}
 use Rattle.rules.proofs.Pairs.{Both, none, more}
 use Rattle.rules.proofs.Passes.{getD-vacate}
-use Rattle.rules.proofs.Pieces.{Piece, Pieces, Fits, fit, Tight, tight-inside, next-piece, added, completed}
+use Rattle.slots.proofs.Pieces.{Piece, Pieces, Fits, fit, Tight, tight-inside, next-piece, added, completed}
 use Rattle.rules.proofs.Readings.{walk-clock}
 use Rattle.rules.proofs.Choices.{slot-for-some, idle-undone}
 use Rattle.rules.proofs.Kept.{sound-open, sound-step, sound-recategorised, held-named}

@@ -18,7 +18,8 @@ use Rattle.rules.specs.Laws.{card-of, latest}
 use Rattle.rules.specs.Ledgers.{Ledger, Known, body-in, leave, effect-of, happen, start, cleared, arming}
 use Rattle.rules.specs.Soundness.{Sound, Slot-sound}
 use Rattle.rules.specs.Triggers.{Verdict, nothing, effect, late, wait, verdict, Effect}
-use Rattle.rules.specs.Worlds.{State, World, slot-at, part, body-at, holding, with-state, vacate, undone, show-all, effect-at, due, fire, armed, categorised}
+use Rattle.rules.specs.Worlds.{State, World, slot-at, body-at, holding, with-state, vacate, undone, show-all, effect-at, due, fire, armed, categorised}
+use Rattle.slots.specs.Pieces.{part}
 use Rattle.shelf.specs.Kinds.{by-moment}
 use Rattle.shelf.specs.Places.{shelved}
 use Rattle.shelf.specs.declared.entries.Entry.{Entry}
@@ -31,7 +32,7 @@ use Rattle.std.specs.shelf.Lists.{kept-by, All}
 use mathlib.Core.Logic.{_⊎_, inl, inr}
 use Rattle.rules.proofs.Pairs.{Both, none, more, both-kept, both-map, both-all, both-shelved}
 use Rattle.rules.proofs.Passes.{getD-vacate}
-use Rattle.rules.proofs.Pieces.{Piece, Pieces}
+use Rattle.slots.proofs.Pieces.{Piece, Pieces}
 
 -- the last moment that a time field can name
 abbrev pub newest : ℕ

@@ -4,7 +4,6 @@ pub mod Moments
 pub mod Passes
 mod Pairs
 pub mod Finds
-mod Pieces
 mod Follows
 pub mod Filters
 pub mod Sounds

@@ -15,7 +15,8 @@ use Rattle.rules.specs.Clocks.{tick, ticked, walk, walked, expired}
 use Rattle.rules.specs.Laws.{Never-falls}
 use Rattle.rules.specs.Passes.{gone, seen, shot, undue, at-clock, passed-to}
 use Rattle.rules.specs.Triggers.{Effect}
-use Rattle.rules.specs.Worlds.{State, World, slot-at, part, any, vacate, effect-at, show-all, due}
+use Rattle.rules.specs.Worlds.{State, World, slot-at, any, vacate, effect-at, show-all, due}
+use Rattle.slots.specs.Pieces.{part}
 use Rattle.shelf.specs.declared.entries.Entry.{Entry}
 use Rattle.slots.specs.Slides.{Slot, free, arriving, held, ends, passed, numbered, number-in, size-in}
 use Rattle.std.proofs.shelf.Elements.{kept-by-passes}

@@ -17,6 +17,7 @@ use Rattle.rules.specs.declared.answers.Answer.the-variants.{Taken, Repeat, Fi
 use Rattle.shelf.specs.Kinds.{by-moment}
 use Rattle.shelf.specs.Places.{shelved}
 use Rattle.shelf.specs.declared.entries.Entry.{Entry}
+use Rattle.slots.specs.Pieces.{gather}
 use Rattle.slots.specs.Slides.{passed}
 use Rattle.std.specs.shelf.Lists.{kept-by}
 use Rattle.std.specs.declared.option.Option.{Option}
@@ -31,12 +32,7 @@ pub record Known : Type 0 where
   pub trigger : Option Time
   pub pieces : ℕ → List ℕ
 
--- the bytes of the segments 0 to n - 1, in order
-abbrev pub gather : (ℕ → List ℕ) → ℕ → List ℕ
-gather ps zero = []
-gather ps (suc n) = gather ps n ++ ps n
-
--- a body has at most 64 segments
+-- a body is the bytes of its segments in the order of their numbers, of which there are at most 64
 unfoldable pub body-in : Known → List ℕ
 body-in x = gather (x .pieces) 64
 

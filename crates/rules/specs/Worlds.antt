@@ -3,13 +3,14 @@ use mathlib.Core.Bool.{Bool, true, false, cond, not, _&&_, _||_}
 use mathlib.Core.List.{List, [], _∷_, _++_, map}
 use Prim.Native.Nat.{ℕ, zero, suc, _+_, _-_, _*_}
 use lib.Dec.{eqb, leb, ltb}
-use lib.ListN.{length, getD, set, take, drop}
+use lib.ListN.{length, getD, set}
 use Rattle.display.specs.Meaning.{Meaning, showed}
 use Rattle.header.specs.declared.kinds.Category.{Category}
 use Rattle.rules.specs.Triggers.{Verdict, nothing, effect, late, wait, Effect}
 use Rattle.shelf.specs.Kinds.{by-moment, by-place}
 use Rattle.shelf.specs.Places.{shelved}
 use Rattle.shelf.specs.declared.entries.Entry.{Entry}
+use Rattle.slots.specs.Pieces.{part}
 use Rattle.slots.specs.Slides.{Slot, free, numbered, number-in, size-in, ends}
 use Rattle.std.specs.shelf.Lists.{kept-by}
 use Rattle.std.specs.declared.option.Option.{Option}
@@ -34,10 +35,6 @@ pub record World : Type 0 where
 
 abbrev pub slot-at : State → ℕ → Slot
 slot-at s k = getD (s .slots) k free
-
--- n bytes of memory from a on
-abbrev pub part : ℕ → ℕ → List ℕ → List ℕ
-part a n m = take n (drop a m)
 
 -- the held body in slot k
 abbrev pub body-at : World → ℕ → List ℕ
