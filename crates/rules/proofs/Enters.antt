@@ -32,7 +32,7 @@ use Rattle.refusal.specs.declared.Fault.{Fault}
 use Rattle.refusal.specs.declared.causes.Cause.the-variants.{HeaderCut}
 use Rattle.rules.specs.Assembly.{put, received, filed, told-filing, landed, on-landing, segment-of, segment-step}
 use Rattle.rules.specs.Calls.{Call, header, segment, time, find-name, next-place, body-of, card, Reply, answered, counted, refused}
-use Rattle.rules.specs.Clocks.{prepared, expired, tick, walk, walked, set-to, read-to, on-time, time-step}
+use Rattle.rules.specs.Clocks.{prepared, expired, tick, walk, walked, set-to, read-to, on-setting, on-reading, setting-step, reading-step, time-step}
 use Rattle.rules.specs.Headers.{slot-for, begun, new-image, image-step, told-update, recategorised, update-step, by-kind, on-header, header-step, idle}
 use Rattle.rules.specs.Ledgers.{Ledger, Known, body-in, leave, happen, instant, pass, start, arming, noted, kept, with-piece, filed-in, said, on-said, known-from, on-answer, on-answered, on-counted, moved-to, entered, blank, ledger}
 use Rattle.rules.specs.Runs.{opened, after, replies, step}
@@ -496,30 +496,37 @@ module _ (m : Meaning) (keeps : Keeps m) where
       let sound′ : Sound (u .state) = sound-vacate (ends t) (w .state) sound in
       fired m keeps (prepared t w) (start t l) (sound-filtered (λ e. leb t (e .key)) (u .state) sound′) (later-only m keeps u l′ sound′ g t) t ok
 
+  counts : (w : World) (l : Ledger) (xs : List ℕ) (t : ℕ) (o : Reply × World) (n : ℕ) → time-of xs ≡ Ok (At t) → o .0 ≡ counted n → Follows m (o .1) (moved-to (Ok (At t)) l) → Goes l (time xs) o
+  unfolding entered
+  counts w l xs t o n i e f =
+      subst (λ (r : Reply). Follows m (o .1) (on-counted r l (moved-to (time-of xs) l))) (sym e) (subst (λ (r : Result Time Fault). Follows m (o .1) (moved-to r l)) (sym i) f)
+
   clocked : (w : World) (l : Ledger) (xs : List ℕ) → Sound (w .state) → Follows m w l → Goes l (time xs) (time-step w xs)
-  unfolding time-step entered
+  unfolding setting-step reading-step entered
   clocked w l xs sound h =
-      cond-both (fits-memory w) _ _ (Goes l (time xs)) (λ fm. go (time-of xs) refl (read-in-time xs)) (λ fm. h)
+      cond-both (eqb (w .state .clock) 0) _ _ (Goes l (time xs))
+      (λ e. cond-both (fits-memory w) _ _ (Goes l (time xs)) (λ fm. sets e (time-of xs) refl (read-in-time xs)) (λ fm. h))
+      (λ e. cond-both (fits-memory w) _ _ (Goes l (time xs)) (λ fm. reads e (time-of xs) refl (read-in-time xs)) (λ fm. h))
     where
-      go : (r : Result Time Fault) → time-of xs ≡ r → In-time (okPart r) → Goes l (time xs) (on-time r w)
-      go (Err e) i ok = h
-      go (Ok Now) i ok = h
-      go (Ok (At t)) i ok =
-          let back : (o : Reply × World) (n : ℕ) → o .0 ≡ counted n → Follows m (o .1) (moved-to (Ok (At t)) l) → Goes l (time xs) o =
-          λ o n e f. subst (λ (r : Reply). Follows m (o .1) (on-counted r l (moved-to (time-of xs) l))) (sym e) (subst (λ (r : Result Time Fault). Follows m (o .1) (moved-to r l)) (sym i) f) in
-          cond-both (eqb (w .state .clock) 0) _ _ (Goes l (time xs))
-          (λ e.
+      sets : eqb (w .state .clock) 0 ≡ true → (r : Result Time Fault) → time-of xs ≡ r → In-time (okPart r) → Goes l (time xs) (on-setting r w)
+      sets e (Err d) i ok = h
+      sets e (Ok Now) i ok = h
+      sets e (Ok (At t)) i ok =
           let z : eqb (l .clock) 0 ≡ true = ap (λ x. eqb x 0) (h .clock) ∙ e in
-          back (set-to t w) _ refl (rw z (settings w l t sound h (ok .1))))
-          (λ e.
+          counts w l xs t (set-to t w) _ i refl (rw z (settings w l t sound h (ok .1)))
+
+      reads : eqb (w .state .clock) 0 ≡ false → (r : Result Time Fault) → time-of xs ≡ r → In-time (okPart r) → Goes l (time xs) (on-reading r w)
+      reads e (Err d) i ok = h
+      reads e (Ok Now) i ok = h
+      reads e (Ok (At t)) i ok =
           let z : eqb (l .clock) 0 ≡ false = ap (λ x. eqb x 0) (h .clock) ∙ e in
           cond-both (leb (w .state .clock) t) _ _ (Goes l (time xs))
           (λ d.
-          back (counted (walked (t - w .state .clock) w), walk (t - w .state .clock) w) _ refl
+          counts w l xs t (counted (walked (t - w .state .clock) w), walk (t - w .state .clock) w) _ i refl
           (rw z
           (subst (λ x. Follows m (walk (t - w .state .clock) w) (pass (t - x) l)) (sym (h .clock))
           (ticks (t - w .state .clock) w l (omega (arith, leb-true (w .state .clock) t d, ok .1)) sound h))))
-          (λ d. h))
+          (λ d. h)
 
   pub nexts : (w : World) (l : Ledger) (c : Call) → Sound (w .state) → Follows m w l → Goes l c (step w c)
   unfolding step entered

@@ -20,7 +20,7 @@ use Rattle.moment.specs.declared.times.Time.the-variants as times
 use Rattle.refusal.specs.declared.Fault.{Fault}
 use Rattle.rules.specs.Assembly.{put, received, filed, told-filing, landed, on-landing, segment-of, segment-step}
 use Rattle.rules.specs.Calls.{Call, header, segment, time, find-name, next-place, body-of, card, Reply, answered, counted, refused}
-use Rattle.rules.specs.Clocks.{prepared, tick, walk, on-time, time-step}
+use Rattle.rules.specs.Clocks.{prepared, tick, walk, on-setting, on-reading, setting-step, reading-step, time-step}
 use Rattle.rules.specs.Headers.{slot-for, image-step, recategorised, told-update, update-step, by-kind, on-header, header-step}
 use Rattle.rules.specs.Laws.{Count-on, given-by, given-in, Numbers-rise, on-taken}
 use Rattle.rules.specs.Runs.{opened, after, replies, step}
@@ -211,20 +211,29 @@ module _ (w : World) (h : Sound (w .state)) where
   walk-given zero = refl
   walk-given (suc n) = walk-given n
 
-  clocked : (xs : List ℕ) → Goes w (time xs) (time-step w xs)
-  unfolding time-step
-  clocked xs = cond-both (fits-memory w) _ _ (Goes w (time xs)) (λ fm. go (time-of xs)) (λ fm. still w (time xs) _ h (λ ns. refl))
+  setting : (xs : List ℕ) → Goes w (time xs) (setting-step w xs)
+  unfolding setting-step
+  setting xs = cond-both (fits-memory w) _ _ (Goes w (time xs)) (λ fm. go (time-of xs)) (λ fm. still w (time xs) _ h (λ ns. refl))
     where
-      go : (r : Result Time Fault) → Goes w (time xs) (on-time r w)
+      go : (r : Result Time Fault) → Goes w (time xs) (on-setting r w)
+      go (Err e) = still w (time xs) (refused e) h (λ ns. refl)
+      go (Ok times.Now) = still w (time xs) _ h (λ ns. refl)
+      go (Ok (times.At t)) = record { sound = sound-set t w h; rises = λ ns i. i }
+
+  reading : (xs : List ℕ) → Goes w (time xs) (reading-step w xs)
+  unfolding reading-step
+  reading xs = cond-both (fits-memory w) _ _ (Goes w (time xs)) (λ fm. go (time-of xs)) (λ fm. still w (time xs) _ h (λ ns. refl))
+    where
+      go : (r : Result Time Fault) → Goes w (time xs) (on-reading r w)
       go (Err e) = still w (time xs) (refused e) h (λ ns. refl)
       go (Ok times.Now) = still w (time xs) _ h (λ ns. refl)
       go (Ok (times.At t)) =
-          cond-both (eqb (s .clock) 0) _ _ (Goes w (time xs))
-          (λ e. record { sound = sound-set t w h; rises = λ ns i. i })
-          (λ e.
           cond-both (leb (s .clock) t) _ _ (Goes w (time xs))
           (λ d. record { sound = sound-walk (t - s .clock) w h; rises = λ ns i. subst (λ g. Count-on g ns) (walk-given (t - s .clock)) i })
-          (λ d. still w (time xs) _ h (λ ns. refl)))
+          (λ d. still w (time xs) _ h (λ ns. refl))
+
+  clocked : (xs : List ℕ) → Goes w (time xs) (time-step w xs)
+  clocked xs = cond-both (eqb (s .clock) 0) _ _ (Goes w (time xs)) (λ e. setting xs) (λ e. reading xs)
 
   goes : (c : Call) → Goes w c (step w c)
   unfolding step
@@ -238,6 +247,19 @@ module _ (w : World) (h : Sound (w .state)) where
 
 pub sound-step : (w : World) (c : Call) → Sound (w .state) → Sound (step w c .1 .state)
 sound-step w c h = goes w h c .sound
+
+-- each call by itself
+pub sound-header : (w : World) (t : ℕ) (xs : List ℕ) → Sound (w .state) → Sound (header-step w t xs .1 .state)
+sound-header w t xs h = headed w h t xs .sound
+
+pub sound-segment : (w : World) (t n : ℕ) (last : Bool) (xs : List ℕ) → Sound (w .state) → Sound (segment-step w t n last xs .1 .state)
+sound-segment w t n last xs h = segmented w h t n last xs .sound
+
+pub sound-setting : (w : World) (xs : List ℕ) → Sound (w .state) → Sound (setting-step w xs .1 .state)
+sound-setting w xs h = setting w h xs .sound
+
+pub sound-reading : (w : World) (xs : List ℕ) → Sound (w .state) → Sound (reading-step w xs .1 .state)
+sound-reading w xs h = reading w h xs .sound
 
 pub sound-run : (cs : List Call) (w : World) → Sound (w .state) → Sound (after w cs .state)
 sound-run [] w h = h

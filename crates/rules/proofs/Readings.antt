@@ -11,7 +11,7 @@ use Rattle.moment.specs.declared.times.Time.{Time}
 use Rattle.moment.specs.declared.times.Time.the-variants.{At}
 use Rattle.refusal.specs.declared.Fault.{Fault}
 use Rattle.rules.specs.Calls.{Call, time, Reply, counted, refused}
-use Rattle.rules.specs.Clocks.{walk, walked, tick, ticked, time-step, on-time}
+use Rattle.rules.specs.Clocks.{walk, walked, tick, ticked, setting-step, reading-step, on-reading}
 use Rattle.rules.specs.Laws.{Climbs, Name-moments, total}
 use Rattle.rules.specs.Ledgers.{Ledger, ledger, entered, pass, instant, moved-to}
 use Rattle.rules.specs.Runs.{after, replies, step}
@@ -41,18 +41,19 @@ walked-add m (suc n) w =
 
 -- a reading that is not below the clock is a walk to its moment
 pub step-time : (w : World) (f : List ℕ) (t : ℕ) → fits-memory w ≡ true → time-of f ≡ Ok (At t) → 0 < w .state .clock → w .state .clock ≤ t → step w (time f) ≡ (counted (walked (t - w .state .clock) w), walk (t - w .state .clock) w)
-unfolding step time-step
+unfolding step reading-step
 step-time w f t fits e h k =
-    rw fits (ap (λ (r : Result Time Fault). on-time r w) e ∙ rw (ne-eqb (w .state .clock) 0 (omega arith), le-leb (w .state .clock) t k))
+    rw (ne-eqb (w .state .clock) 0 (omega arith), fits) (ap (λ (r : Result Time Fault). on-reading r w) e ∙ rw (le-leb (w .state .clock) t k))
 
 -- an accepted one was handed memory that fits
 pub accepted : (w : World) (f : List ℕ) (n : ℕ) → step w (time f) .0 ≡ counted n → fits-memory w ≡ true
-unfolding step time-step
-accepted w f n h = go (fits-memory w) _ _ h
+unfolding step setting-step reading-step
+accepted w f n h = go (eqb (w .state .clock) 0) (fits-memory w) _ _ _ _ h
   where
-    go : (b : Bool) (x : Reply × World) (e : Fault) → cond b x (refused e, w) .0 ≡ counted n → b ≡ true
-    go true x e h = refl
-    go false x e h = let z : _≡_ {A = ℕ} 0 1 = cc in absurd (omega arith)
+    go : (a b : Bool) (x y : Reply × World) (d e : Fault) → cond a (cond b x (refused d, w)) (cond b y (refused e, w)) .0 ≡ counted n → b ≡ true
+    go a true x y d e h = refl
+    go true false x y d e h = let z : _≡_ {A = ℕ} 0 1 = cc in absurd (omega arith)
+    go false false x y d e h = let z : _≡_ {A = ℕ} 0 1 = cc in absurd (omega arith)
 
 pub pass-clock : (n : ℕ) (l : Ledger) → pass n l .clock ≡ l .clock + n
 unfolding instant

@@ -52,10 +52,22 @@ abbrev pub read-to : ℕ → World → Reply × World
 read-to t w =
     cond (leb (w .state .clock) t) (counted (walked (t - w .state .clock) w), walk (t - w .state .clock) w) (refused (receiver-fault ReadingBelowClock), w)
 
-abbrev pub on-time : Result Time Fault → World → Reply × World
-on-time (Err e) w = (refused e, w)
-on-time (Ok Now) w = (refused time-fault, w)
-on-time (Ok (At t)) w = cond (eqb (w .state .clock) 0) (set-to t w) (read-to t w)
+abbrev pub on-setting : Result Time Fault → World → Reply × World
+on-setting (Err e) w = (refused e, w)
+on-setting (Ok Now) w = (refused time-fault, w)
+on-setting (Ok (At t)) w = set-to t w
 
-unfoldable pub time-step : World → List ℕ → Reply × World
-time-step w xs = cond (fits-memory w) (on-time (time-of xs) w) (refused (receiver-fault BodyMemoryMisfit), w)
+abbrev pub on-reading : Result Time Fault → World → Reply × World
+on-reading (Err e) w = (refused e, w)
+on-reading (Ok Now) w = (refused time-fault, w)
+on-reading (Ok (At t)) w = read-to t w
+
+-- a time field sets an unset clock, and is a reading of a running one
+unfoldable pub setting-step : World → List ℕ → Reply × World
+setting-step w xs = cond (fits-memory w) (on-setting (time-of xs) w) (refused (receiver-fault BodyMemoryMisfit), w)
+
+unfoldable pub reading-step : World → List ℕ → Reply × World
+reading-step w xs = cond (fits-memory w) (on-reading (time-of xs) w) (refused (receiver-fault BodyMemoryMisfit), w)
+
+abbrev pub time-step : World → List ℕ → Reply × World
+time-step w xs = cond (eqb (w .state .clock) 0) (setting-step w xs) (reading-step w xs)
