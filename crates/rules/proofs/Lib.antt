@@ -11,4 +11,5 @@ pub mod Choices
 pub mod Kept
 pub mod Rooms
 mod Enters
-mod Stand
+pub mod Stand
+mod Computed

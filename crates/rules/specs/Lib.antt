@@ -10,3 +10,4 @@ pub mod Soundness
 pub mod Runs
 pub mod Ledgers
 pub mod Laws
+pub mod Samples
