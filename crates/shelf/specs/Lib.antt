@@ -1,0 +1,5 @@
+pub mod Searches
+pub mod Places
+pub mod Laws
+pub mod Calls
+pub mod Kinds
