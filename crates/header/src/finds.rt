@@ -1,7 +1,6 @@
 // The known parameters: what each stands for, what its data say, and what was found so far.
 ghost use mathlib.Core.Path.{_≡_};
 ghost use mathlib.Core.Bool.{true, false};
-ghost use Rattle.moment.specs.Field.{time-of};
 ghost use Rattle.std.specs.Options.{isSome};
 ghost use Rattle.std.specs.Results.{Cases};
 ghost use Rattle.header.specs.Params.{part-of};

@@ -1,6 +1,4 @@
-use Prim.Native.Nat.{_<_}
 use native.Mathlib.Omega.{arith}
-use lib.ListN.{length}
 use Rattle.headerdump.proofs.Shorter.{shorter}
 use Rattle.headerdump.proofs.dump.Needs as need
 
