@@ -24,7 +24,6 @@ use moment::times::Time;
 use std::alloc::AllocError;
 use std::alloc::Global;
 
-
 // When a display shows what it is told for a moment.
 fn frames(heap: Global, moment: u64, period: Period, delay: Delay) -> Frames
     ensures { λ r. ⌜ Shows-at (period .apart) (delay .late) moment r ⌝ }
@@ -36,8 +35,12 @@ fn frames(heap: Global, moment: u64, period: Period, delay: Delay) -> Frames
         millis,
         panel: Panel::new(Vec::new(heap)).settle(moment),
         edge: Edge::new(Panel::new(Vec::new(heap)), period).settle(moment),
-        lag_over_edge: Lag::new(Edge::new(Panel::new(Vec::new(heap)), period), delay).settle(moment),
-        edge_over_lag: Edge::new(Lag::new(Panel::new(Vec::new(heap)), delay), period).settle(moment),
+        lag_over_edge: Lag::new(Edge::new(Panel::new(Vec::new(heap)), period), delay).settle(
+            moment,
+        ),
+        edge_over_lag: Edge::new(Lag::new(Panel::new(Vec::new(heap)), delay), period).settle(
+            moment,
+        ),
     }
 }
 
@@ -63,7 +66,12 @@ pub fn answer(heap: Global, text: &[u8], period: Period, delay: Delay) -> Result
 }
 
 // The answers to a whole input, line by line.
-pub fn answers(heap: Global, input: &[u8], period: Period, delay: Delay) -> Result<Vec<Line>, AllocError>
+pub fn answers(
+    heap: Global,
+    input: &[u8],
+    period: Period,
+    delay: Delay,
+) -> Result<Vec<Line>, AllocError>
     ensures { λ r. ⌜ made r (λ v. Each-answered (period .apart) (delay .late) (lines-from [] (now (input .entry))) (vec-items v)) ⌝ }
 {
     let mut all = Vec::new(heap);

@@ -38,12 +38,23 @@ impl fmt::Display for Settled as SettledText {
 
 pub impl fmt::Display for Frames as FramesText {
     fn fmt<W: fmt::Write>(&self, f: &mut fmt::Formatter<W>) -> fmt::Result {
-        let Frames { moment, day, millis, panel, edge, lag_over_edge, edge_over_lag } = *self;
+        let Frames {
+            moment,
+            day,
+            millis,
+            panel,
+            edge,
+            lag_over_edge,
+            edge_over_lag,
+        } = *self;
         let first = Settled(panel);
         let second = Settled(edge);
         let third = Settled(lag_over_edge);
         let fourth = Settled(edge_over_lag);
-        write!(f, "{moment} {day} {millis} {first} {second} {third} {fourth}")
+        write!(
+            f,
+            "{moment} {day} {millis} {first} {second} {third} {fourth}"
+        )
     }
 }
 

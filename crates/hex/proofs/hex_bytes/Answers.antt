@@ -1,8 +1,4 @@
-<<<<<<< HEAD
-use mathlib.Core.Path.{_≡_, sym, ap, _∙_}
-=======
 use mathlib.Core.Path.{sym, ap, _∙_}
->>>>>>> header
 use Prim.Native.Nat.{_<_}
 use borrow.Author.Needs.{needs}
 use lib.ListN.{length}

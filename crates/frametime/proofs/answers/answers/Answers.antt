@@ -44,7 +44,7 @@ returns c =
     let end : length xs ≡ at = omega (arith, c .loop-at-test .left, c .loop-at .kept .at-end) in
     elim (c .if-start-input .came) [
       | then-start-input·in-Continue-answer-2·in-Continue-push-2 w ↦
-        after-last p d xs all start at (inv .0) (inv .1) (c .if-start-input .all .items) (w .in-Continue-answer-2 .field-0) (c .loop-at-test .left) (c .loop-at .kept .at-end) (omega (arith, w .if-start-input .taken)) (subst (λ (n : ℕ). Answers p d (bytes-of (take (n - start) (drop start xs))) (w .in-Continue-answer-2 .field-0)) end (w .in-Continue-answer-2 .ensures tt)) (ap vec-items (w .all-is) ∙ pushed (w .in-Continue-answer-2 .field-0 ∷ []) refl (w .in-Continue-push-2 .was tt) (w .push-then-start-input .ensures .items))
+          after-last p d xs all start at (inv .0) (inv .1) (c .if-start-input .all .items) (w .in-Continue-answer-2 .field-0) (c .loop-at-test .left) (c .loop-at .kept .at-end) (omega (arith, w .if-start-input .taken)) (subst (λ (n : ℕ). Answers p d (bytes-of (take (n - start) (drop start xs))) (w .in-Continue-answer-2 .field-0)) end (w .in-Continue-answer-2 .ensures tt)) (ap vec-items (w .all-is) ∙ pushed (w .in-Continue-answer-2 .field-0 ∷ []) refl (w .in-Continue-push-2 .was tt) (w .push-then-start-input .ensures .items))
       | else-start-input w ↦
-        subst (λ (z : List Line). Each-answered p d (lines-from [] xs) z) (sym (ap vec-items (w .all-is))) (after-none p d xs all start at (inv .0) (inv .1) (c .loop-at-test .left) (c .loop-at .kept .at-end) (omega (arith, w .if-start-input .left)))
+          subst (λ (z : List Line). Each-answered p d (lines-from [] xs) z) (sym (ap vec-items (w .all-is))) (after-none p d xs all start at (inv .0) (inv .1) (c .loop-at-test .left) (c .loop-at .kept .at-end) (omega (arith, w .if-start-input .left)))
     ]
