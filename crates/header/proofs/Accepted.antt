@@ -1,31 +1,22 @@
 -- What acceptance says of a core and of what was found, and how it comes about.
-use mathlib.Core.Path.{_≡_, refl, sym, ap, subst, _∙_}
-use mathlib.Core.Bool.{Bool, true, false, cond, _&&_, _||_}
+use mathlib.Core.Path.{_≡_, refl, sym}
+use mathlib.Core.Bool.{true, _||_}
 use mathlib.Core.List.{List, [], _∷_}
-use mathlib.Core.Logic.{_⊎_, inl, inr}
-use Prim.Native.Nat.{ℕ, _+_, _*_, _/_, _%_, _^_, _<_, _≤_}
+use Prim.Native.Nat.{ℕ, _+_, _*_, _/_, _%_, _^_, _<_}
 use native.Mathlib.Omega.{arith}
-use lib.Dec.{eqb, leb, ltb}
 use lib.ListN.{length}
-use Rattle.packed.specs.Bits.{field, whole}
-use Rattle.refusal.specs.declared.Fault.{Fault}
-use Rattle.refusal.specs.declared.causes.Cause.{Cause}
-use Rattle.refusal.specs.declared.causes.Cause.the-variants.{HeaderSizeDiffers, NeitherImageNorUpdate, BodySizeMisfit, NameMissing, UpdateWithoutEffect}
+use Rattle.packed.specs.Bits.{whole}
 use Rattle.std.proofs.shelf.Bits.{shr-shr}
-use Rattle.std.proofs.shelf.Tests.{true≢false, eqb-true, eq-eqb, cond-true}
+use Rattle.std.proofs.shelf.Tests.{true≢false}
 use Rattle.std.proofs.shelf.Ways.{tells}
-use Rattle.std.specs.Options.{okOr, isSome}
+use Rattle.std.specs.Options.{isSome}
 use Rattle.std.specs.shelf.Lists.{All}
 use Rattle.std.specs.declared.option.Option.{Option}
 use Rattle.std.specs.declared.option.Option.the-variants.{Some, None}
-use Rattle.std.specs.declared.result.Result.{Result}
-use Rattle.std.specs.declared.result.Result.the-variants.{Ok, Err}
 use Rattle.header.specs.Cores.{core-in, kind-of, body-fits}
-use Rattle.header.specs.Finds.{refusal-at, FoundRecord}
-use Rattle.header.specs.Names.{NameRecord}
-use Rattle.header.specs.Headers.{HeaderRecord, and-then, demand, params-of, effective, header-with, completed, read-with}
+use Rattle.header.specs.Finds.{FoundRecord}
+use Rattle.header.specs.Headers.{effective}
 use Rattle.header.specs.Written.{Allowed, Effect}
-use Rattle.header.specs.declared.kinds.Core.{Core}
 use Rattle.header.specs.declared.kinds.Kind.{Kind}
 use Rattle.header.specs.declared.kinds.Kind.the-variants.{Image, Update}
 

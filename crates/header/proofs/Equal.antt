@@ -1,6 +1,5 @@
 -- Equal names: what the test says, and that they are kept in equal records.
-use mathlib.Core.Path.{_≡_, refl, sym, ap, _∙_}
-use mathlib.Core.Bool.{Bool, true}
+use mathlib.Core.Path.{_≡_, sym, ap, _∙_}
 use mathlib.Core.HLevel.{isProp→PathP}
 use mathlib.Core.List.{List, _++_}
 use Prim.Native.Nat.{ℕ, _-_, _≤_}
@@ -14,7 +13,7 @@ use Rattle.std.proofs.shelf.Ways.{decides-and, decides-eqb, decides-like}
 use Rattle.std.specs.Orderings.{Decides}
 use Rattle.std.specs.shelf.Text.{sameBytes}
 use Rattle.header.specs.Names.{NameRecord, same-name}
-use Rattle.header.specs.Kept.{name-of, Kept-once}
+use Rattle.header.specs.Kept.{Kept-once}
 use Rattle.header.specs.declared.names.Name.{Name}
 
 -- the test of two names decides whether they are equal

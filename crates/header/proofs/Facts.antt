@@ -13,10 +13,10 @@ use Rattle.std.specs.Results.{okPart}
 use Rattle.std.specs.declared.option.Option.{Option}
 use Rattle.std.specs.declared.option.Option.the-variants.{Some, None}
 use Rattle.std.specs.declared.result.Result.{Result}
-use Rattle.std.specs.declared.result.Result.the-variants.{Ok, Err}
+use Rattle.std.specs.declared.result.Result.the-variants.{Ok}
 use Rattle.header.specs.Cores.{core-in}
-use Rattle.header.specs.Finds.{common, meaning-of, FoundRecord, time-at, version-at, category-at, name-at, taken-as, taken}
-use Rattle.header.specs.Headers.{HeaderRecord, part-at, nothing, params-from, header-with, header-of}
+use Rattle.header.specs.Finds.{meaning-of, FoundRecord, time-at, version-at, category-at, name-at, taken-as, taken}
+use Rattle.header.specs.Headers.{HeaderRecord, part-at, nothing, params-from, header-of}
 use Rattle.header.specs.Names.{NameRecord}
 use Rattle.header.specs.Sound.{Body, Plain, In-time, Sound}
 use Rattle.header.specs.Written.{Allowed}
@@ -27,7 +27,7 @@ use Rattle.header.specs.declared.parts.Meaning.the-variants.{ExpireTime, Trigg
 use Rattle.header.proofs.Chains.{refused-not, then-ok}
 use Rattle.header.proofs.Sayings.{says-time, name-read, once-read}
 use Rattle.header.proofs.Accepted.{kind-allowed, effect-from}
-use Rattle.header.proofs.Laws.{Passed, cored}
+use Rattle.header.proofs.Laws.{cored}
 use Rattle.header.proofs.Moments.{read-in-time}
 
 -- a name of 1 to 64 bytes in one of sixteen character sets

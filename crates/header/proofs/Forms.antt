@@ -2,7 +2,7 @@
 use mathlib.Core.Path.{_≡_, refl, sym, ap, subst, _∙_}
 use mathlib.Core.Bool.{Bool, true, false, cond}
 use mathlib.Core.List.{List, [], _∷_, _++_}
-use Prim.Native.Nat.{ℕ, zero, suc, _+_, _-_, _*_, _/_, _%_, _<_, _≤_}
+use Prim.Native.Nat.{ℕ, _+_, _*_, _/_, _%_, _<_, _≤_}
 use native.Mathlib.Omega.{arith}
 use lib.Dec.{eqb, leb, ltb}
 use lib.ListN.{length, getD, take, drop, length-append, length-drop}
@@ -15,7 +15,7 @@ use Rattle.std.specs.declared.option.Option.{Option}
 use Rattle.std.specs.declared.option.Option.the-variants.{Some, None}
 use Rattle.header.specs.Params.{mark-in, id-in, long-extent, extent-of, Part, first-within, first-of}
 use Rattle.header.proofs.Chains.{none-not, passed}
-use Rattle.header.specs.Written.{Form, marked, short, long, Param, written-as, written, Gives-length, Proper}
+use Rattle.header.specs.Written.{Form, marked, short, long, written-as, Gives-length}
 
 -- a part that begins behind its head and what gives its length
 cut : (head : ℕ) (front xs ys : List ℕ) (start size : ℕ) → length (head ∷ front) ≡ start → length xs ≡ size → first-within ((head ∷ front) ++ (xs ++ ys)) (Some (start, size)) ≡ Some (record { id = id-in head; holds = xs; rest = ys })

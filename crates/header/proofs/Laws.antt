@@ -1,13 +1,12 @@
 -- The law of headers: what is accepted is written so, and what is written so is accepted.
 use mathlib.Core.Path.{_≡_, refl, sym, ap, subst, subst₂, _∙_}
 use mathlib.Core.Bool.{true}
-use mathlib.Core.List.{List, [], _∷_, _++_}
-use Prim.Native.Nat.{ℕ, _+_, _<_, _≤_}
+use mathlib.Core.List.{List, _++_}
+use Prim.Native.Nat.{ℕ, _<_, _≤_}
 use native.Mathlib.Omega.{arith}
 use lib.Dec.{eqb, leb}
 use lib.ListN.{length, take, drop, length-append}
 use Rattle.packed.specs.Bits.{whole}
-use Rattle.refusal.specs.declared.Fault.{Fault}
 use Rattle.refusal.specs.declared.causes.Cause.the-variants.{HeaderCut, HeaderSizeDiffers, NeitherImageNorUpdate, BodySizeMisfit, NameMissing, UpdateWithoutEffect}
 use Rattle.std.proofs.shelf.Elements.{all-take, all-drop}
 use Rattle.std.proofs.shelf.Lists.{take-append-drop, length-take-le, take-at, drop-at}
@@ -16,13 +15,12 @@ use Rattle.std.specs.Options.{okOr}
 use Rattle.std.specs.shelf.Lists.{All, joined}
 use Rattle.std.specs.declared.option.Option.{Option}
 use Rattle.std.specs.declared.option.Option.the-variants.{Some, None}
-use Rattle.std.specs.declared.result.Result.{Result}
-use Rattle.std.specs.declared.result.Result.the-variants.{Ok, Err}
+use Rattle.std.specs.declared.result.Result.the-variants.{Ok}
 use Rattle.header.specs.Cores.{core-in, kind-of, body-fits}
 use Rattle.header.specs.Finds.{refusal-at, FoundRecord}
 use Rattle.header.specs.Names.{NameRecord}
-use Rattle.header.specs.Headers.{HeaderRecord, and-then, demand, nothing, params-of, effective, header-with, completed, read-with, header-of}
-use Rattle.header.specs.Written.{Param, written, Proper, given, Says-name, Describes, Header-law}
+use Rattle.header.specs.Headers.{HeaderRecord, demand, nothing, params-of, effective, header-with, read-with, header-of}
+use Rattle.header.specs.Written.{Param, written, given, Says-name, Describes, Header-law}
 use Rattle.header.specs.declared.kinds.Core.{Core}
 use Rattle.header.specs.declared.kinds.Kind.{Kind}
 use Rattle.header.specs.declared.parts.Meaning.the-variants.{ContentName}

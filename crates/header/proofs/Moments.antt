@@ -2,20 +2,18 @@
 use mathlib.Core.Path.{_≡_, refl}
 use mathlib.Core.Bool.{Bool, true, false, cond, _&&_}
 use mathlib.Core.List.{List}
-use Prim.Native.Nat.{ℕ, _+_, _*_, _^_, _<_, _≤_}
+use Prim.Native.Nat.{ℕ, _^_, _<_, _≤_}
 use native.Mathlib.Omega.{arith}
 use lib.Dec.{eqb, leb, ltb}
 use lib.ListN.{length}
 use Rattle.packed.specs.Bits.{whole}
 use Rattle.moment.specs.Days.{join-of}
-use Rattle.moment.specs.Field.{time-fault, of-day, moment-at, validity, day, form, hours, minutes, seconds, milliseconds, short-time, long-time, time-of}
+use Rattle.moment.specs.Field.{time-fault, of-day, moment-at, validity, day, form, hours, minutes, seconds, milliseconds, time-of}
 use Rattle.moment.specs.declared.times.Time.{Time}
-use Rattle.moment.specs.declared.times.Time.the-variants.{Now, At}
+use Rattle.moment.specs.declared.times.Time.the-variants.{At}
 use Rattle.refusal.specs.declared.Fault.{Fault}
 use Rattle.std.proofs.shelf.Tests.{and-parts, leb-true, ltb-true}
 use Rattle.std.specs.Results.{okPart}
-use Rattle.std.specs.declared.option.Option.{Option}
-use Rattle.std.specs.declared.option.Option.the-variants.{Some, None}
 use Rattle.std.specs.declared.result.Result.{Result}
 use Rattle.std.specs.declared.result.Result.the-variants.{Ok, Err}
 use Rattle.header.specs.Sound.{In-time}

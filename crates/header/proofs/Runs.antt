@@ -4,16 +4,13 @@ use mathlib.Core.List.{List, [], _∷_, _++_}
 use Prim.Native.Nat.{ℕ, zero, suc, _+_, _-_, _<_, _≤_}
 use native.Mathlib.Omega.{arith}
 use lib.ListN.{length, length-append}
-use Rattle.moment.specs.declared.times.Time.{Time}
-use Rattle.refusal.specs.declared.Fault.{Fault}
 use Rattle.std.specs.shelf.Lists.{All, joined}
 use Rattle.std.specs.declared.option.Option.{Option}
 use Rattle.std.specs.declared.option.Option.the-variants.{Some, None}
-use Rattle.std.specs.declared.result.Result.{Result}
-use Rattle.std.specs.declared.result.Result.the-variants.{Ok, Err}
-use Rattle.header.specs.Params.{Part, first-of}
+use Rattle.std.specs.declared.result.Result.the-variants.{Ok}
+use Rattle.header.specs.Params.{first-of}
 use Rattle.header.specs.Finds.{FoundRecord, meaning-of, time-at, version-at, category-at, name-at, taken-as, taken}
-use Rattle.header.specs.Headers.{and-then, part-at, params-from}
+use Rattle.header.specs.Headers.{part-at, params-from}
 use Rattle.header.specs.Written.{Form, marked, short, long, Param, written-as, written, Proper, kept, given, Says-time, Says-version, Says-category, Says-name, Given}
 use Rattle.header.specs.declared.kinds.Kind.{Kind}
 use Rattle.header.specs.declared.parts.Meaning.{Meaning}

@@ -5,19 +5,15 @@ use mathlib.Core.List.{List, [], _∷_}
 use Prim.Native.Nat.{ℕ, zero, suc, _+_, _-_, _<_, _≤_}
 use native.Mathlib.Omega.{arith}
 use lib.Dec.{eqb, leb, ltb}
-use lib.ListN.{length, drop, length-drop}
+use lib.ListN.{length, length-drop}
 use Rattle.packed.specs.Bits.{field}
-use Rattle.refusal.specs.declared.Fault.{Fault}
-use Rattle.refusal.specs.declared.causes.Cause.the-variants.{ParameterPastEnd}
 use Rattle.std.proofs.shelf.Tests.{leb-true}
-use Rattle.std.specs.Options.{okOr}
 use Rattle.std.specs.declared.option.Option.{Option}
 use Rattle.std.specs.declared.option.Option.the-variants.{Some, None}
-use Rattle.std.specs.declared.result.Result.{Result}
-use Rattle.std.specs.declared.result.Result.the-variants.{Ok, Err}
+use Rattle.std.specs.declared.result.Result.the-variants.{Ok}
 use Rattle.header.specs.Params.{mark-in, long-extent, extent-of, Part, first-within, first-of}
-use Rattle.header.specs.Finds.{refusal-at, FoundRecord, taken}
-use Rattle.header.specs.Headers.{and-then, part-at, params-from}
+use Rattle.header.specs.Finds.{FoundRecord, taken}
+use Rattle.header.specs.Headers.{part-at, params-from}
 use Rattle.header.specs.declared.kinds.Kind.{Kind}
 use Rattle.header.proofs.Chains.{none-not, passed, then-same, then-go, was-some, some-ok}
 

@@ -114,7 +114,7 @@ abbrev pub found-of : Found → FoundRecord
 found-of f =
     record { expire = f .expire; trigger = f .trigger; version = f .version; name = options.mapped name-of-label (f .name); category = f .category }
 
--- what a call answers with what it leaves behind
-abbrev pub outcome : Result (Unit {0}) Fault → Found → Result FoundRecord Fault
-outcome (Ok u) f = Ok (found-of f)
-outcome (Err e) f = Err e
+-- what a call answers with the value that it leaves behind
+abbrev pub left-with : {T : Type 0} → Result (Unit {0}) Fault → T → Result T Fault
+left-with (Ok u) x = Ok x
+left-with (Err e) x = Err e

@@ -1,5 +1,5 @@
 -- A header: its core, then its parameters first to last. Each test refuses in its turn.
-use mathlib.Core.Bool.{Bool, true, false, cond, _||_}
+use mathlib.Core.Bool.{Bool, true, cond, _||_}
 use mathlib.Core.List.{List, [], _∷_}
 use Prim.Native.Nat.{ℕ, zero, suc, _+_, _-_}
 use lib.Dec.{eqb, leb}
@@ -12,7 +12,7 @@ use Rattle.refusal.specs.declared.causes.Cause.the-variants.{HeaderCut, HeaderS
 use Rattle.std.specs.Options.{okOr, isSome}
 use Rattle.std.specs.Results as results
 use Rattle.std.specs.declared.option.Option.{Option}
-use Rattle.std.specs.declared.option.Option.the-variants.{Some, None}
+use Rattle.std.specs.declared.option.Option.the-variants.{None}
 use Rattle.std.specs.declared.result.Result.{Result}
 use Rattle.std.specs.declared.result.Result.the-variants.{Ok, Err}
 use Rattle.header.specs.Cores.{core-in, kind-of, body-fits}

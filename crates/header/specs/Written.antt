@@ -14,7 +14,7 @@ use Rattle.std.specs.shelf.Lists.{All, joined}
 use Rattle.std.specs.declared.option.Option.{Option}
 use Rattle.std.specs.declared.option.Option.the-variants.{Some, None}
 use Rattle.std.specs.declared.result.Result.{Result}
-use Rattle.std.specs.declared.result.Result.the-variants.{Ok, Err}
+use Rattle.std.specs.declared.result.Result.the-variants.{Ok}
 use Rattle.header.specs.Finds.{meaning-of}
 use Rattle.header.specs.Names.{NameRecord}
 use Rattle.header.specs.Headers.{HeaderRecord}

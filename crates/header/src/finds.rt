@@ -1,11 +1,7 @@
 // The known parameters: what each stands for, what its data say, and what was found so far.
 ghost use mathlib.Core.Path.{_≡_};
-ghost use mathlib.Core.Bool.{true, false};
-ghost use Rattle.moment.specs.Field.{time-of};
-ghost use Rattle.std.specs.Options.{isSome};
-ghost use Rattle.std.specs.Results.{Cases};
 ghost use Rattle.header.specs.Params.{part-of};
-ghost use Rattle.header.specs.Finds.{refusal-at, meaning-of, time-at, version-at, category-at, name-at, seen-name, outcome, taken, found-of};
+ghost use Rattle.header.specs.Finds.{refusal-at, meaning-of, time-at, version-at, category-at, name-at, seen-name, once, left-with, taken, found-of};
 use crate::kinds::Category;
 use crate::kinds::Kind;
 use crate::kinds::Label;
@@ -89,44 +85,30 @@ fn label<'a>(bytes: &'a [u8], place: u16) -> Result<Label<'a>, Fault>
     }
 }
 
-// Refuses a parameter whose value was found before.
-fn fresh<T>(was: &Option<T>, place: u16) -> Result<(), Fault>
-    ensures { λ r. ⌜ Cases r (λ _. isSome (now (was .entry)) ≡ false) (λ e. (isSome (now (was .entry)) ≡ true) × (e ≡ refusal-at Cause.ParameterAgain place)) ⌝ }
+// Keeps a value that may be given once.
+fn keep<T: Drop>(was: &mut Option<T>, value: Result<T, Fault>, place: u16) -> Result<(), Fault>
+    ensures { λ r. ⌜ left-with r (now (was .exit)) ≡ once place (now (was .entry)) value ⌝ }
 {
     if was.is_some() {
         return Err(refused(Cause::ParameterAgain, place));
     }
+    *was = Some(value?);
     Ok(())
 }
 
 impl<'a> Found<'a> {
     // What is found with one parameter more, which stands at that place of the header.
     pub fn take(&mut self, kind: Kind, parameter: Parameter<'a>, place: u16) -> Result<(), Fault>
-        ensures { λ r. ⌜ outcome r (now (self .exit)) ≡ taken kind place (part-of (parameter .entry)) (found-of (now (self .entry))) ⌝ }
+        ensures { λ r. ⌜ left-with r (found-of (now (self .exit))) ≡ taken kind place (part-of (parameter .entry)) (found-of (now (self .entry))) ⌝ }
     {
+        let bytes = parameter.bytes;
         match meaning(kind, parameter.id) {
-            Meaning::ExpireTime => {
-                fresh(&self.expire, place)?;
-                self.expire = Some(time(parameter.bytes, place)?);
-            }
-            Meaning::TriggerTime => {
-                fresh(&self.trigger, place)?;
-                self.trigger = Some(time(parameter.bytes, place)?);
-            }
-            Meaning::VersionNumber => {
-                fresh(&self.version, place)?;
-                self.version = Some(version(parameter.bytes, place)?);
-            }
-            Meaning::ContentName => {
-                fresh(&self.name, place)?;
-                self.name = Some(label(parameter.bytes, place)?);
-            }
-            Meaning::CategorySlide => {
-                fresh(&self.category, place)?;
-                self.category = Some(category(parameter.bytes, place)?);
-            }
-            Meaning::Skipped => {}
+            Meaning::ExpireTime => keep(&mut self.expire, time(bytes, place), place),
+            Meaning::TriggerTime => keep(&mut self.trigger, time(bytes, place), place),
+            Meaning::VersionNumber => keep(&mut self.version, version(bytes, place), place),
+            Meaning::ContentName => keep(&mut self.name, label(bytes, place), place),
+            Meaning::CategorySlide => keep(&mut self.category, category(bytes, place), place),
+            Meaning::Skipped => Ok(()),
         }
-        Ok(())
     }
 }

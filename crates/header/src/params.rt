@@ -1,7 +1,6 @@
 // The parameter reader: the first parameter of some bytes, its data a part of them.
 ghost use mathlib.Core.Path.{_≡_};
 ghost use Prim.Native.Nat.{_<_};
-ghost use Rattle.std.specs.Options.{Cases};
 ghost use Rattle.header.specs.Params.{long-extent, extent-of, first-of, seen-first};
 use crate::parts::Parameter;
 

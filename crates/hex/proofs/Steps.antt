@@ -1,6 +1,6 @@
 -- The steps of reading hexadecimal text from its front.
 use mathlib.Core.Path.{_≡_, refl, sym, ap, _∙_}
-use mathlib.Core.Bool.{true, false, cond}
+use mathlib.Core.Bool.{true, false}
 use mathlib.Core.List.{List, [], _∷_, _++_}
 use Prim.Native.Nat.{ℕ, _-_, _<_}
 use native.Mathlib.Omega.{arith}
@@ -32,7 +32,6 @@ past-pair [] h k e = absurd (omega arith)
 past-pair (a ∷ []) h k e = absurd (omega (arith, ap length (take-rest (a ∷ []) 1)))
 past-pair (a ∷ b ∷ xs) h k e =
     let r : behind (a ∷ b ∷ xs) ≡ b ∷ xs = take-rest (a ∷ b ∷ xs) 1 in
-    let s : behind (behind (a ∷ b ∷ xs)) ≡ xs = ap behind r ∙ take-rest (b ∷ xs) 1 in
     cond-false (blank a) _ _ e ∙ sym (ap (λ (ys : List ℕ). before (byte-of a (getD ys 0 0)) (bytes-of (behind ys))) r ∙ ap (λ (ys : List ℕ). before (byte-of a b) (bytes-of ys)) (take-rest (b ∷ xs) 1))
 
 -- the same behind bytes read already, o being the byte that the two digits give

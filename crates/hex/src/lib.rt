@@ -1,7 +1,8 @@
 // Hexadecimal text: bytes written as pairs of digits.
 ghost use mathlib.Core.Path.{_≡_};
+ghost use Prim.Native.Nat.{_<_};
 ghost use Rattle.std.specs.Of.Vec.{vec-items};
-ghost use Rattle.std.specs.Options.{mapped};
+ghost use Rattle.std.specs.Options.{Cases, mapped};
 ghost use Rattle.std.specs.Vec.{made};
 ghost use Rattle.hex.specs.Text.{digit-of, blank, byte-of, bytes-of};
 use std::alloc::AllocError;
@@ -9,7 +10,8 @@ use std::alloc::Global;
 
 // The value of a hexadecimal digit in either case, or none.
 fn digit(c: u8) -> Option<u8>
-    ensures { λ r. ⌜ r ≡ digit-of c ⌝ }
+    ensures value { λ r. ⌜ r ≡ digit-of c ⌝ }
+    ensures bound { λ r. ⌜ Cases r (Unit {0}) (λ d. d < 16) ⌝ }
 {
     match c {
         b'0'..=b'9' => Some(c - b'0'),

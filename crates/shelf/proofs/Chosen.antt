@@ -8,23 +8,14 @@ use Rattle.std.proofs.shelf.Elements.{all-kept-by, all-weaker}
 use Rattle.std.proofs.shelf.Tests.{cond-both, cond-true, cond-false, not-from-true, not-from-false, eqb-true}
 use Rattle.std.specs.Keys.{Total}
 use Rattle.std.specs.declared.cmp.Ordering.{Ordering}
-use Rattle.std.specs.shelf.Lists.{All, kept-by}
+use Rattle.std.specs.shelf.Lists.{kept-by}
 use Rattle.shelf.specs.declared.entries.Entry.{Entry}
 use Rattle.shelf.specs.Laws.{Apart, AllAbove}
 use Rattle.shelf.specs.Places.{above, carries, found, without, shelved, place-of, Ascending}
-use Rattle.shelf.specs.Searches.{without-that, NonePasses}
-use Rattle.shelf.proofs.Firsts.{all-without}
+use Rattle.shelf.specs.Searches.{without-that}
+use Rattle.shelf.proofs.Firsts.{all-without, kept-all, kept-none}
 use Rattle.shelf.proofs.Found.{none-passes}
 use Rattle.shelf.proofs.Ordered.{all-above}
-
-module _ {X : Type 0} (p : X → Bool) where
-  pub kept-all : (xs : List X) → All (λ x. p x ≡ true) xs → kept-by p xs ≡ xs
-  kept-all [] h = refl
-  kept-all (x ∷ xs) h = cond-true (p x) (x ∷ kept-by p xs) (kept-by p xs) (h .0) ∙ ap (λ (l : List X). x ∷ l) (kept-all xs (h .1))
-
-  pub kept-none : (xs : List X) → All (λ x. p x ≡ false) xs → kept-by p xs ≡ []
-  kept-none [] h = refl
-  kept-none (x ∷ xs) h = cond-false (p x) (x ∷ kept-by p xs) (kept-by p xs) (h .0) ∙ kept-none xs (h .1)
 
 -- ---- any comparison
 

@@ -1,20 +1,20 @@
 -- The first of a list that passes a test, and the list without it.
 use mathlib.Core.Path.{_≡_, refl, sym, ap, _∙_}
 use mathlib.Core.Bool.{Bool, true, false, cond}
-use mathlib.Core.List.{List, [], _∷_, _++_}
+use mathlib.Core.List.{List, [], _∷_}
 use Prim.Native.Nat.{suc}
-use Rattle.std.proofs.shelf.Tests.{cond-both, cond-false, true≢false}
+use Rattle.std.proofs.shelf.Tests.{cond-both, cond-true, cond-false, true≢false}
 use Rattle.std.specs.Holes.{removed}
 use Rattle.std.specs.Options.{isSome}
 use Rattle.std.specs.declared.option.Option.{Option}
 use Rattle.std.specs.declared.option.Option.the-variants.{Some, None}
-use Rattle.std.specs.shelf.Lists.{All}
-use Rattle.shelf.specs.Searches.{first-that, place-that, without-that, NonePasses, FirstAt, First, Lost}
+use Rattle.std.specs.shelf.Lists.{All, kept-by}
+use Rattle.shelf.specs.Searches.{first-that, place-that, without-that, FirstAt, First, Lost}
 
 module _ {X : Type 0} (test : X → Bool) where
   -- the first behind one that does not pass, and one that passes in front of all
-  abbrev pub later : (x : X) {xs : List X} {y : X} → test x ≡ false → FirstAt test xs y → FirstAt test (x ∷ xs) y
-  later x e h = record {
+  abbrev pub at-later : (x : X) {xs : List X} {y : X} → test x ≡ false → FirstAt test xs y → FirstAt test (x ∷ xs) y
+  at-later x e h = record {
     front = x ∷ h .front;
     back = h .back;
     whole = ap (λ (l : List X). x ∷ l) (h .whole);
@@ -27,7 +27,7 @@ module _ {X : Type 0} (test : X → Bool) where
 
   further : (x : X) (xs : List X) (r : Option X) → test x ≡ false → First test xs r → First test (x ∷ xs) r
   further x xs None e h = (e, h)
-  further x xs (Some y) e h = later x e h
+  further x xs (Some y) e h = at-later x e h
 
   -- what the search answers is the first
   pub first-is : (xs : List X) → First test xs (first-that test xs)
@@ -43,7 +43,7 @@ module _ {X : Type 0} (test : X → Bool) where
       (λ e. record { item = x; at = at-once x xs e; left = refl })
       (λ e.
       let l = lost xs (sym (ap isSome (cond-false (test x) (Some x) (first-that test xs) e)) ∙ h) in
-      record { item = l .item; at = later x e (l .at); left = ap (λ (ys : List X). x ∷ ys) (l .left) })
+      record { item = l .item; at = at-later x e (l .at); left = ap (λ (ys : List X). x ∷ ys) (l .left) })
 
   -- without the first, nothing is gained
   pub all-without : (P : X → Type 0) (xs : List X) → All P xs → All P (without-that test xs)
@@ -56,3 +56,13 @@ module _ {X : Type 0} (test : X → Bool) where
   removed-first [] = refl
   removed-first (x ∷ xs) =
       elim (test x) as (λ b. removed (x ∷ xs) (cond b 0 (suc (place-that test xs))) ≡ cond b xs (x ∷ without-that test xs)) [ true ↦ refl | false ↦ ap (λ (l : List X). x ∷ l) (removed-first xs) ]
+
+-- where all pass a test, or none does
+module _ {X : Type 0} (p : X → Bool) where
+  pub kept-all : (xs : List X) → All (λ x. p x ≡ true) xs → kept-by p xs ≡ xs
+  kept-all [] h = refl
+  kept-all (x ∷ xs) h = cond-true (p x) (x ∷ kept-by p xs) (kept-by p xs) (h .0) ∙ ap (λ (l : List X). x ∷ l) (kept-all xs (h .1))
+
+  pub kept-none : (xs : List X) → All (λ x. p x ≡ false) xs → kept-by p xs ≡ []
+  kept-none [] h = refl
+  kept-none (x ∷ xs) h = cond-false (p x) (x ∷ kept-by p xs) (kept-by p xs) (h .0) ∙ kept-none xs (h .1)

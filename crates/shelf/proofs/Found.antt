@@ -1,24 +1,22 @@
 -- What is found on a shelf after an entry came or went.
 use mathlib.Core.Path.{_≡_, refl, sym, ap, _∙_}
-use mathlib.Core.Bool.{Bool, true, false, cond, not}
+use mathlib.Core.Bool.{Bool, true, false, cond}
 use mathlib.Core.List.{List, [], _∷_, map}
 use mathlib.Core.Logic.{⊎-elim, _⊎_, inl, inr}
-use Prim.Native.Nat.{ℕ, suc, _+_}
-use native.Mathlib.Numerals.{add-one}
+use Prim.Native.Nat.{ℕ, _+_}
 use native.Mathlib.Omega.{arith}
-use lib.Dec.{eqb}
 use lib.ListN.{length}
 use Rattle.std.proofs.shelf.Elements.{all-has, all-has-itself, all-weaker}
-use Rattle.std.proofs.shelf.Tests.{cond-both, cond-true, cond-false, cases-bool, true≢false, both-ways, eqb-true, eqb-false, ne-eqb, eq-eqb}
+use Rattle.std.proofs.shelf.Tests.{cond-both, cond-true, cond-false, cases-bool, true≢false, eqb-true, eqb-false, ne-eqb, eq-eqb}
 use Rattle.std.specs.Options.{isSome}
 use Rattle.std.specs.Orderings.{isGt}
 use Rattle.std.specs.declared.cmp.Ordering.{Ordering}
 use Rattle.std.specs.declared.option.Option.{Option}
 use Rattle.std.specs.declared.option.Option.the-variants.{Some, None}
-use Rattle.std.specs.shelf.Lists.{All, Has, kept-by}
+use Rattle.std.specs.shelf.Lists.{All, Has}
 use Rattle.shelf.specs.declared.entries.Entry.{Entry}
 use Rattle.shelf.specs.Laws.{Apart}
-use Rattle.shelf.specs.Places.{above, carries, found, without, shelved, Ascending}
+use Rattle.shelf.specs.Places.{above, carries, found, without, shelved}
 use Rattle.shelf.specs.Searches.{first-that, without-that, NonePasses}
 use Rattle.shelf.proofs.Firsts.{all-without}
 use Rattle.shelf.proofs.Ordered.{all-shelved}
@@ -59,7 +57,7 @@ module _ {X : Type 0} (test : X → Bool) where
       omega (arith, ih, ap length (cond-false (test x) xs (x ∷ without-that test xs) e)))
       (cases-bool (test x))
 
-  -- another test, which no two pass alike, finds what it found before
+  -- a test that nothing passes along with this one finds what it found before
   pub first-without : (other : X → Bool) → ((x : X) → test x ≡ true → other x ≡ false) → (xs : List X) → first-that other (without-that test xs) ≡ first-that other xs
   first-without other apart [] = refl
   first-without other apart (x ∷ xs) =

@@ -1,17 +1,29 @@
 -- What above means at the two kinds of key.
-use mathlib.Core.Path.{_≡_, refl}
-use mathlib.Core.Bool.{true, false, cond, _&&_, _||_}
-use Prim.Native.Nat.{ℕ}
+use mathlib.Core.Path.{_≡_, sym, _∙_}
+use mathlib.Core.Bool.{true, false}
+use Prim.Native.Nat.{ℕ, _<_, _≤_}
 use native.Mathlib.Omega.{arith}
-use lib.Dec.{eqb, ltb}
+use Rattle.std.proofs.shelf.Tests.{ltb-true, ltb-false, lt-ltb, le-ltb}
 use Rattle.std.proofs.shelf.Ways.{tells}
-use Rattle.std.specs.Keys.{rank}
-use Rattle.std.specs.Orderings.{isGt, thenBy}
 use Rattle.shelf.specs.declared.entries.Entry.{Entry}
-use Rattle.shelf.specs.Kinds.{Later, Further}
+use Rattle.shelf.specs.Kinds.{by-moment, Later, Further}
+use Rattle.shelf.specs.Places.{above}
 
 pub later : Later
 later k x = grind (arith, tells)
 
 pub further : Further
 further k x = grind (arith, tells)
+
+-- at moments, above and not above as an order of numbers
+pub past-moment : (k : ℕ) (x : Entry ℕ) → above by-moment k x ≡ true → k < x .key
+past-moment k x h = ltb-true k (x .key) (sym (later k x) ∙ h)
+
+pub within-moment : (k : ℕ) (x : Entry ℕ) → above by-moment k x ≡ false → x .key ≤ k
+within-moment k x h = ltb-false k (x .key) (sym (later k x) ∙ h)
+
+pub moment-past : (k : ℕ) (x : Entry ℕ) → k < x .key → above by-moment k x ≡ true
+moment-past k x h = later k x ∙ lt-ltb k (x .key) h
+
+pub moment-within : (k : ℕ) (x : Entry ℕ) → x .key ≤ k → above by-moment k x ≡ false
+moment-within k x h = later k x ∙ le-ltb k (x .key) h

@@ -3,13 +3,15 @@ use mathlib.Core.Path.{_≡_, refl, sym, ap, _∙_}
 use mathlib.Core.Bool.{Bool, true, false, cond}
 use mathlib.Core.List.{List, [], _∷_, _++_}
 use mathlib.Core.Logic.{⊎-elim}
-use Prim.Native.Nat.{ℕ, suc}
+use Prim.Native.Nat.{ℕ, zero, suc}
 use native.Mathlib.Omega.{arith}
-use Rattle.std.proofs.shelf.Elements.{all-weaker}
+use lib.ListN.{take, drop}
+use Rattle.std.proofs.shelf.Elements.{all-take, all-weaker}
+use Rattle.std.proofs.shelf.Lists.{append-nil}
 use Rattle.std.proofs.shelf.Tests.{cond-both, cases-bool, true≢false, both-ways}
 use Rattle.std.specs.Holes.{inserted}
 use Rattle.std.specs.Keys.{Total, alike-right}
-use Rattle.std.specs.Orderings.{isGt, reversed}
+use Rattle.std.specs.Orderings.{isEq, isGt, reversed}
 use Rattle.std.specs.declared.cmp.Ordering.{Ordering}
 use Rattle.std.specs.declared.cmp.Ordering.the-variants.{Less, Equal, Greater}
 use Rattle.std.specs.declared.option.Option.{Option}
@@ -17,9 +19,9 @@ use Rattle.std.specs.declared.option.Option.the-variants.{Some, None}
 use Rattle.std.specs.shelf.Lists.{All}
 use Rattle.shelf.specs.declared.entries.Entry.{Entry}
 use Rattle.shelf.specs.Places.{above, place-of, first-above, shelved, Ascending}
-use Rattle.shelf.specs.Laws.{Arrived, Reach, Next, AllAbove}
+use Rattle.shelf.specs.Laws.{Arrived, InTurn, Reach, Next, AllAbove, of-key}
 use Rattle.shelf.specs.Searches.{without-that}
-use Rattle.shelf.proofs.Firsts.{all-without, later, at-once}
+use Rattle.shelf.proofs.Firsts.{all-without, kept-none, at-later, at-once}
 
 -- ---- any comparison
 
@@ -46,6 +48,17 @@ module _ {K : Type 0} (cmp : K → K → Ordering) where
       (λ _. up .1)
       (λ _. (all-without test (λ y. above cmp (y .key) x ≡ false) xs (up .0), ascending-without test xs (up .1)))
 
+  -- and so does the order of a part
+  pub ascending-take : (n : ℕ) (xs : List (Entry K)) → Ascending cmp xs → Ascending cmp (take n xs)
+  ascending-take zero xs up = tt
+  ascending-take (suc n) [] up = tt
+  ascending-take (suc n) (x ∷ xs) up = (all-take (λ y. above cmp (y .key) x ≡ false) n xs (up .0), ascending-take n xs (up .1))
+
+  pub ascending-drop : (n : ℕ) (xs : List (Entry K)) → Ascending cmp xs → Ascending cmp (drop n xs)
+  ascending-drop zero xs up = up
+  ascending-drop (suc n) [] up = tt
+  ascending-drop (suc n) (x ∷ xs) up = ascending-drop n xs (up .1)
+
 -- ---- a total order
 
 after : (p q : Ordering) → p ≡ reversed q → isGt q ≡ true → isGt p ≡ false
@@ -53,8 +66,27 @@ after p Less e h = absurd (true≢false (sym h))
 after p Equal e h = absurd (true≢false (sym h))
 after p Greater e h = ap isGt e
 
+not-level : (p : Ordering) → isGt p ≡ true → isEq p ≡ false
+not-level Less h = refl
+not-level Equal h = absurd (true≢false (sym h))
+not-level Greater h = refl
+
+is-level : (p : Ordering) → isEq p ≡ true → p ≡ Equal
+is-level Less h = absurd (true≢false (sym h))
+is-level Equal h = refl
+is-level Greater h = absurd (true≢false (sym h))
+
+module _ {X : Type 0} where
+  front-or-back : (b : Bool) (e : X) (ys : List X) → (b ≡ true → ys ≡ []) → cond b (e ∷ ys) ys ≡ ys ++ cond b (e ∷ []) []
+  front-or-back true e ys h = ap (λ (l : List X). e ∷ l) (h refl) ∙ ap (λ (l : List X). l ++ e ∷ []) (sym (h refl))
+  front-or-back false e ys h = sym (append-nil ys)
+
+  one-more : (b : Bool) (x : X) (zs ys us : List X) → zs ≡ ys ++ us → cond b (x ∷ zs) zs ≡ cond b (x ∷ ys) ys ++ us
+  one-more true x zs ys us h = ap (λ (l : List X). x ∷ l) h
+  one-more false x zs ys us h = h
+
 module _ {K : Type 0} {R : K → K → Ordering → Type 0} (o : Total R) where
-  -- of two keys that differ one is above the other, and not the other way round
+  -- of two keys at most one is above the other
   pub above-one-way : (x y : K) → isGt (o .cmp x y) ≡ true → isGt (o .cmp y x) ≡ false
   above-one-way x y h = after (o .cmp y x) (o .cmp x y) (o .flip y x) h
 
@@ -109,6 +141,20 @@ module _ {K : Type 0} {R : K → K → Ordering → Type 0} (o : Total R) where
         all-above = r .all-above;
       })
 
+  -- none of its equals stands behind it
+  none-level : (k : K) (e : Entry K) (xs : List (Entry K)) → isEq (o .cmp (e .key) k) ≡ true → AllAbove (o .cmp) (e .key) xs → of-key (o .cmp) k xs ≡ []
+  none-level k e xs same high =
+      kept-none (λ x. isEq (o .cmp (x .key) k)) xs (all-weaker (λ x. above (o .cmp) (e .key) x ≡ true) (λ x. isEq (o .cmp (x .key) k) ≡ false) (λ x up. not-level (o .cmp (x .key) k) (sym (ap isGt (alike-right o (e .key) k (x .key) (is-level (o .cmp (e .key) k) same))) ∙ up)) xs high)
+
+  pub in-turn : (e : Entry K) (xs : List (Entry K)) → Ascending (o .cmp) xs → InTurn (o .cmp) e xs (shelved (o .cmp) e xs)
+  in-turn e [] up k = refl
+  in-turn e (x ∷ xs) up k =
+      let level : Entry K → Bool = λ y. isEq (o .cmp (y .key) k) in
+      let of : List (Entry K) → List (Entry K) = of-key (o .cmp) k in
+      cond-both (above (o .cmp) (e .key) x) (e ∷ x ∷ xs) (x ∷ shelved (o .cmp) e xs) (λ l. of l ≡ of (x ∷ xs) ++ of (e ∷ []))
+      (λ t. front-or-back (level e) e (of (x ∷ xs)) (λ same. none-level k e (x ∷ xs) same (all-above (e .key) x xs t up)))
+      (λ t. one-more (level x) x (of (shelved (o .cmp) e xs)) (of xs) (of (e ∷ [])) (in-turn e xs (up .1) k))
+
   -- how far a key reaches
   pub reach : (k : K) (xs : List (Entry K)) → Ascending (o .cmp) xs → Reach (o .cmp) k xs (place-of (o .cmp) k xs)
   reach k [] up = record { within = omega arith; reached = tt; beyond = tt }
@@ -121,7 +167,7 @@ module _ {K : Type 0} {R : K → K → Ordering → Type 0} (o : Total R) where
 
   next-further : (k : K) (x : Entry K) (xs : List (Entry K)) (r : Option (Entry K)) → above (o .cmp) k x ≡ false → Next (o .cmp) k xs r → Next (o .cmp) k (x ∷ xs) r
   next-further k x xs None t h = (t, h)
-  next-further k x xs (Some y) t h = (later (above (o .cmp) k) x t (h .0), (λ e. absurd (both-ways (above (o .cmp) k x) t e), h .1))
+  next-further k x xs (Some y) t h = (at-later (above (o .cmp) k) x t (h .0), (λ e. absurd (both-ways (above (o .cmp) k x) t e), h .1))
 
   -- the first above a key is the lowest
   pub next : (k : K) (xs : List (Entry K)) → Ascending (o .cmp) xs → Next (o .cmp) k xs (first-above (o .cmp) k xs)

@@ -11,7 +11,6 @@ use Rattle.std.proofs.shelf.Tests.{cases-bool, cond-true, cond-false}
 use Rattle.std.proofs.shelf.Maps.{nth-past}
 use Rattle.std.specs.Finite.{nth}
 use Rattle.std.specs.Options.{isSome}
-use Rattle.std.specs.declared.option.Option.{Option}
 use Rattle.std.specs.declared.option.Option.the-variants.{Some, None}
 use Rattle.shelf.specs.Searches.{first-that, place-that}
 

@@ -4,10 +4,11 @@ use mathlib.Core.Bool.{true, false}
 use mathlib.Core.List.{List, [], _∷_, _++_}
 use Prim.Native.Nat.{ℕ, _≤_}
 use lib.ListN.{length, take, drop}
+use Rattle.std.specs.Orderings.{isEq}
 use Rattle.std.specs.declared.cmp.Ordering.{Ordering}
 use Rattle.std.specs.declared.option.Option.{Option}
 use Rattle.std.specs.declared.option.Option.the-variants.{Some, None}
-use Rattle.std.specs.shelf.Lists.{All}
+use Rattle.std.specs.shelf.Lists.{All, kept-by}
 use Rattle.shelf.specs.declared.entries.Entry.{Entry}
 use Rattle.shelf.specs.Places.{above, found}
 use Rattle.shelf.specs.Searches.{FirstAt}
@@ -34,6 +35,14 @@ module _ {K : Type 0} (cmp : K → K → Ordering) where
     pub after : new ≡ front ++ e ∷ back
     pub not-above : NoneAbove (e .key) front
     pub all-above : AllAbove (e .key) back
+
+  -- the entries of one key, in the order in which they stand
+  abbrev pub of-key : K → List (Entry K) → List (Entry K)
+  of-key k xs = kept-by (λ x. isEq (cmp (x .key) k)) xs
+
+  -- e came behind its equals: of each key there stands what stood before, then e if the key is its own
+  abbrev pub InTurn : Entry K → List (Entry K) → List (Entry K) → Type 0
+  InTurn e old new = (k : K) → of-key k new ≡ of-key k old ++ of-key k (e ∷ [])
 
   -- of the list, just the first n entries are not above the key
   pub record Reach (k : K) (xs : List (Entry K)) (n : ℕ) : Type 0 where

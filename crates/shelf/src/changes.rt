@@ -1,6 +1,6 @@
 // What changes a shelf: an entry comes, or one goes.
 ghost use mathlib.Core.Path.{_≡_};
-ghost use Prim.Native.Nat.{ℕ, _+_, _-_, _<_, _≤_};
+ghost use Prim.Native.Nat.{_+_, _-_, _<_};
 ghost use lib.ListN.{length, take, drop};
 ghost use Rattle.std.specs.Holes.{removed};
 ghost use Rattle.std.specs.Keys.{Total};
@@ -9,7 +9,7 @@ ghost use Rattle.std.specs.Slices.{found as AtSome};
 ghost use Rattle.std.specs.Vec.{made};
 ghost use Rattle.std.specs.declared.cmp.Ordering.{Ordering};
 ghost use Rattle.shelf.specs.Calls.{Received, Released, Headed};
-ghost use Rattle.shelf.specs.Laws.{Arrived};
+ghost use Rattle.shelf.specs.Laws.{Arrived, InTurn};
 ghost use Rattle.shelf.specs.Places.{carries, shelved, without, Ascending};
 ghost use Rattle.shelf.specs.Searches.{Lost};
 use crate::entries::Entry;
@@ -32,6 +32,7 @@ pub fn insert<K: Ord + Copy>(
     ensures len { λ _. ⌜ length (now (entries .exit)) ≡ length (now (entries .entry)) ⌝ }
     ensures order { λ r. ⌜ ((o : Total (K·Ord .orders)) → Ascending (o .cmp) (take used (now (entries .entry))) → made r (λ n. Ascending (o .cmp) (take n (now (entries .exit))))) ⌝ }
     ensures law { λ r. ⌜ ((o : Total (K·Ord .orders)) → Ascending (o .cmp) (take used (now (entries .entry))) → made r (λ n. Arrived (o .cmp) entry (take used (now (entries .entry))) (take n (now (entries .exit))))) ⌝ }
+    ensures turn { λ r. ⌜ ((o : Total (K·Ord .orders)) → Ascending (o .cmp) (take used (now (entries .entry))) → made r (λ n. InTurn (o .cmp) entry (take used (now (entries .entry))) (take n (now (entries .exit))))) ⌝ }
 {
     if used >= entries.len() {
         return Err(entry);

@@ -1,6 +1,6 @@
 // The two kinds of shelf: waiting moments, and category places.
 ghost use mathlib.Core.Path.{_≡_};
-ghost use Prim.Native.Nat.{ℕ, _+_};
+ghost use Prim.Native.Nat.{_+_};
 ghost use lib.ListN.{take, drop};
 ghost use Rattle.std.specs.Vec.{made};
 ghost use Rattle.shelf.specs.Calls.{Received};

@@ -1,6 +1,6 @@
 // Shelves. A shelf is our word for a list of entries ascending by key, equal keys in order of arrival,
 // kept at the front of lent entries: a slice, and how many of its entries are used.
-// A use above the slice's length means the whole slice.
+// Where more are said to be used than there are, the list is the whole slice.
 pub(crate) mod changes;
 pub mod entries;
 pub(crate) mod kinds;

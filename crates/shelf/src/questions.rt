@@ -1,6 +1,6 @@
 // What a shelf answers, and changes nothing.
 ghost use mathlib.Core.Path.{_≡_};
-ghost use Prim.Native.Nat.{ℕ, _≤_};
+ghost use Prim.Native.Nat.{_≤_};
 ghost use lib.ListN.{length, take};
 ghost use Rattle.std.specs.Keys.{Total};
 ghost use Rattle.shelf.specs.Laws.{Next, Reach};

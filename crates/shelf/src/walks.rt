@@ -1,6 +1,6 @@
 // Walks along a shelf's list, which every call makes.
 ghost use mathlib.Core.Path.{_≡_};
-ghost use Prim.Native.Nat.{ℕ, _≤_};
+ghost use Prim.Native.Nat.{_≤_};
 ghost use lib.ListN.{length, take};
 ghost use Rattle.std.specs.Finite.{nth};
 ghost use Rattle.std.specs.Keys.{Total};

@@ -10,13 +10,13 @@ use Rattle.refusal.specs.declared.Fault.{Fault}
 use Rattle.refusal.specs.declared.causes.Cause.the-variants.{HeaderCut}
 use Rattle.std.proofs.shelf.Elements.{all-from-getD}
 use Rattle.std.proofs.shelf.Lists.{take-rest}
-use Rattle.std.proofs.shelf.Tests.{le-leb, lt-leb, cond-true, cond-false}
+use Rattle.std.proofs.shelf.Tests.{le-leb, lt-leb, cond-false}
 use Rattle.std.specs.Vec.{made}
 use Rattle.std.specs.declared.result.Result.{Result}
 use Rattle.std.specs.declared.result.Result.the-variants.{Ok, Err}
 use Rattle.header.specs.Cores.{core-in}
 use Rattle.header.specs.Finds.{refusal-at}
-use Rattle.header.specs.Headers.{HeaderRecord, and-then, demand, read-with, header-of}
+use Rattle.header.specs.Headers.{HeaderRecord, and-then, read-with, header-of}
 use Rattle.header.specs.Sound.{Sound}
 use Rattle.header.specs.Written.{Header-law}
 use Rattle.header.specs.declared.kinds.Core.{Core}

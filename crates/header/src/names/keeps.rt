@@ -1,8 +1,8 @@
 // Making, reading and comparing kept names.
 ghost use mathlib.Core.Path.{_≡_};
 ghost use mathlib.Core.List.{_++_};
-ghost use Prim.Native.Nat.{ℕ, _-_, _≤_};
-ghost use lib.ListN.{length, drop, replicate};
+ghost use Prim.Native.Nat.{_-_, _≤_};
+ghost use lib.ListN.{length, replicate};
 ghost use Rattle.std.specs.Orderings.{Decides};
 ghost use Rattle.header.specs.Names.{same-name};
 ghost use Rattle.header.specs.Kept.{name-of, no-name, Keeps, Kept-once};

@@ -10,7 +10,7 @@ use Rattle.refusal.specs.declared.Fault.{Fault}
 use Rattle.std.proofs.shelf.Lists.{take-rest}
 use Rattle.std.proofs.shelf.Tests.{lt-ltb, le-leb, and-from, cond-true}
 use Rattle.std.specs.declared.result.Result.{Result}
-use Rattle.std.specs.declared.result.Result.the-variants.{Ok, Err}
+use Rattle.std.specs.declared.result.Result.the-variants.{Ok}
 use Rattle.header.specs.Finds.{name-at}
 use Rattle.header.specs.Names.{NameRecord}
 use Rattle.header.proofs.finds.label.Needs as need

@@ -8,9 +8,9 @@ use Rattle.std.proofs.shelf.Lists.{length-take-le}
 use Rattle.std.proofs.shelf.Parts.{overwrites}
 use Rattle.std.specs.Holes.{inserted}
 use Rattle.std.specs.Keys.{Total}
-use Rattle.shelf.specs.Laws.{Arrived}
+use Rattle.shelf.specs.Laws.{Arrived, InTurn}
 use Rattle.shelf.specs.Places.{shelved, Ascending}
-use Rattle.shelf.proofs.Ordered.{inserted-shelved, ascending-shelved, arrived}
+use Rattle.shelf.proofs.Ordered.{inserted-shelved, ascending-shelved, arrived, in-turn}
 use Rattle.shelf.proofs.Turned.{insert-front, insert-rest}
 use Rattle.shelf.proofs.changes.insert.Needs as need
 
@@ -37,4 +37,5 @@ returns g c =
       len = search (needs, overwrites);
       order = λ o up. subst (Ascending (o .cmp)) (sym (list o)) (ascending-shelved o e (take n xs) up);
       law = λ o up. subst (Arrived (o .cmp) e (take n xs)) (sym (list o)) (arrived o e (take n xs) up);
+      turn = λ o up. subst (InTurn (o .cmp) e (take n xs)) (sym (list o)) (in-turn o e (take n xs) up);
     }

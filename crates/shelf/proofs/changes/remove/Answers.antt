@@ -1,9 +1,9 @@
-use mathlib.Core.Path.{_≡_, refl, sym, ap, subst, _∙_}
+use mathlib.Core.Path.{refl, sym, ap, subst, _∙_}
 use Prim.Native.Nat.{ℕ, _<_, _≤_}
 use native.Mathlib.Omega.{arith}
 use lib.ListN.{length, take, drop}
 use Rattle.std.specs.Holes.{removed}
-use Rattle.shelf.specs.Places.{carries, place-of-load, without, Ascending}
+use Rattle.shelf.specs.Places.{carries, place-of-load, Ascending}
 use Rattle.shelf.specs.Searches.{Lost}
 use Rattle.shelf.proofs.Firsts.{removed-first, lost}
 use Rattle.shelf.proofs.Found.{without-none}

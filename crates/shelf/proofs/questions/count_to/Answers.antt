@@ -1,7 +1,5 @@
-use mathlib.Core.Path.{_≡_, sym, ap, subst, _∙_}
-use mathlib.Core.List.{List}
-use native.Mathlib.Omega.{arith}
-use lib.ListN.{length, take}
+use mathlib.Core.Path.{_≡_, sym, subst}
+use lib.ListN.{take}
 use Rattle.std.specs.Keys.{Total}
 use Rattle.shelf.specs.Laws.{Reach}
 use Rattle.shelf.specs.Places.{place-of}

@@ -1,4 +1,4 @@
-use mathlib.Core.Path.{_≡_, sym, subst, _∙_}
+use mathlib.Core.Path.{_≡_, sym, subst}
 use lib.ListN.{take}
 use Rattle.std.specs.Keys.{Total}
 use Rattle.shelf.specs.Laws.{Next}

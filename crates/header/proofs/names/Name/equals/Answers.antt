@@ -3,7 +3,7 @@ use mathlib.Core.List.{List}
 use Prim.Native.Nat.{ℕ}
 use Rattle.std.proofs.shelf.Ways.{same-from-decides, decides-like}
 use Rattle.std.specs.Orderings.{Decides}
-use Rattle.header.specs.Names.{NameRecord, same-name}
+use Rattle.header.specs.Names.{same-name}
 use Rattle.header.specs.Kept.{name-of}
 use Rattle.header.proofs.Equal.{same-decides, kept-once}
 use Rattle.header.proofs.names.Name.equals.Needs as need
