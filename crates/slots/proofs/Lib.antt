@@ -7,3 +7,4 @@ pub mod Memory
 pub mod Pieces
 pub mod Landings
 pub mod Laid
+mod Assembled

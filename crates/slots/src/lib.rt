@@ -1,4 +1,5 @@
 // Slots: what segments do to an arriving object, and the twelve records that hold the slides.
+pub mod bodies;
 pub mod images;
 pub mod moves;
 pub mod progress;
