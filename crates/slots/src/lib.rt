@@ -1,5 +1,6 @@
 // Slots: what segments do to an arriving object, and the twelve records that hold the slides.
 pub mod bodies;
+pub mod figures;
 pub mod images;
 pub mod moves;
 pub mod progress;
