@@ -48,12 +48,7 @@ pub fn assemble(memory: &mut [u8], base: usize, size: u32, sent: &[Sent<'_>]) ->
     if base > room || size as usize > room - base {
         return None;
     }
-    let mut progress = Progress {
-        size,
-        piece: None,
-        last: None,
-        taken: 0,
-    };
+    let mut progress = Progress::new(size);
     for segment in sent {
         receive(&mut progress, memory, base, segment);
     }

@@ -9,24 +9,12 @@ use crate::progress::Landing;
 use crate::progress::Progress;
 use crate::progress::Segment;
 
-// Nothing has come of a body of ten bytes.
-fn ten_bytes() -> Progress
-    ensures { λ r. ⌜ r ≡ fresh 10 ⌝ }
-{
-    Progress {
-        size: 10,
-        piece: None,
-        last: None,
-        taken: 0,
-    }
-}
-
 // A last segment 2 of two bytes fixes the piece size 4.
 pub fn last_of_three() -> Progress
     ensures figure { λ _. ⌜ after-segment (fresh 10) (record { number = 2; last = true; length = 2 }) ≡ record { size = 10; piece = Some 4; last = Some 2; taken = 4 } ⌝ }
     ensures answer { λ r. ⌜ r ≡ record { size = 10; piece = Some 4; last = Some 2; taken = 4 } ⌝ }
 {
-    let mut progress = ten_bytes();
+    let mut progress = Progress::new(10);
     let _ = progress.take(Segment {
         number: 2,
         last: true,
@@ -40,7 +28,7 @@ pub fn second_half() -> Landing
     ensures figure { λ _. ⌜ landing (fresh 10) (record { number = 1; last = true; length = 5 }) ≡ At 5 ⌝ }
     ensures answer { λ r. ⌜ r ≡ At 5 ⌝ }
 {
-    ten_bytes().landing(Segment {
+    Progress::new(10).landing(Segment {
         number: 1,
         last: true,
         length: 5,
@@ -52,7 +40,7 @@ pub fn more_than_half() -> Landing
     ensures figure { λ _. ⌜ landing (fresh 10) (record { number = 1; last = true; length = 6 }) ≡ Misfit ⌝ }
     ensures answer { λ r. ⌜ r ≡ Misfit ⌝ }
 {
-    ten_bytes().landing(Segment {
+    Progress::new(10).landing(Segment {
         number: 1,
         last: true,
         length: 6,

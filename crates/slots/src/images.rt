@@ -59,12 +59,7 @@ impl Arrival {
             expire: header.expire,
             trigger: header.trigger,
             category: real_category(header.category),
-            progress: Progress {
-                size: header.body_size,
-                piece: None,
-                last: None,
-                taken: 0,
-            },
+            progress: Progress::new(header.body_size),
         }
     }
 

@@ -34,7 +34,7 @@ returns-then-base-room c =
 pub loop-segment-holds : need.loop-segment-holds
 loop-segment-holds c =
     let e = assembled-none (c .args .base) (c .args .size) (c .args .memory .now) in
-    (ap (λ (r : Receipt). r .progress) (sym e), ap (λ (r : Receipt). r .memory) (sym e))
+    (c .new-progress .ensures ∙ ap (λ (r : Receipt). r .progress) (sym e), ap (λ (r : Receipt). r .memory) (sym e))
 
 -- what a list of segments is read as past its end
 none-sent : Sent

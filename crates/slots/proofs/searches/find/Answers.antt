@@ -11,13 +11,16 @@ returns-then-passes g c =
     let test = g .T·SlotTest .test (c .args .test .now) in
     let x = c .index-records-k .result in
     let passed = ap (λ (y : Slot). test (seen y)) (sym (c .index-records-k .is)) ∙ sym (c .if-passes .ensures tt) in
-    sym (found-here seen xs test (c .loop-k .k) x (c .loop-k-test .taken) passed) ∙ c .loop-k .inv
+    record {
+      value = sym (found-here seen xs test (c .loop-k .k) x (c .loop-k-test .taken) passed) ∙ c .loop-k .inv;
+      within = c .loop-k-test .taken;
+    }
 
 pub returns : need.returns
 returns g c =
     let xs = c .args .records .now in
     let test = g .T·SlotTest .test (c .args .test .now) in
-    sym (found-none seen xs test (c .loop-k .k) (c .loop-k-test .left)) ∙ c .loop-k .inv
+    record { value = sym (found-none seen xs test (c .loop-k .k) (c .loop-k-test .left)) ∙ c .loop-k .inv; within = tt }
 
 pub loop-k-again : need.loop-k-again
 loop-k-again g c =

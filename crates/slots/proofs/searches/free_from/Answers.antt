@@ -15,10 +15,17 @@ returns-then-passes c =
     let xs = c .args .records .now in
     let there : c .loop-tried .at < length xs = omega (arith, c .pre .twelve, c .loop-tried .inv .0) in
     let passed = ap (λ (y : Slot). is-free (seen y)) (sym (c .index-records-at .is)) ∙ sym (c .if-passes .ensures tt) in
-    sym (free-here seen xs (c .args .n) (c .loop-tried .tried) (c .loop-tried .at) (c .index-records-at .result) there (c .loop-tried-test .taken) passed) ∙ c .loop-tried .inv .1
+    record {
+      value = sym (free-here seen xs (c .args .n) (c .loop-tried .tried) (c .loop-tried .at) (c .index-records-at .result) there (c .loop-tried-test .taken) passed) ∙ c .loop-tried .inv .1;
+      within = c .loop-tried .inv .0;
+    }
 
 pub returns : need.returns
-returns c = sym (free-none seen (c .args .records .now) (c .args .n) (c .loop-tried .tried) (c .loop-tried .at) (c .loop-tried-test .left)) ∙ c .loop-tried .inv .1
+returns c =
+    record {
+      value = sym (free-none seen (c .args .records .now) (c .args .n) (c .loop-tried .tried) (c .loop-tried .at) (c .loop-tried-test .left)) ∙ c .loop-tried .inv .1;
+      within = tt;
+    }
 
 pub loop-tried-again : need.loop-tried-again
 loop-tried-again c =
