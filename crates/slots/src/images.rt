@@ -79,6 +79,7 @@ impl Arrival {
 }
 
 // Its object arrives under this TransportId from a header that said the same.
+#[derive(Clone, Copy)]
 pub struct ComesAgain<'a> {
     pub transport: u16,
     pub header: Header<'a>,

@@ -9,3 +9,5 @@ pub mod records;
 pub mod searches;
 pub mod segments;
 pub mod sought;
+#[cfg(test)]
+mod tests;

@@ -11,6 +11,6 @@ returns c =
     let xs = all-seen (c .args .self .now) in
     record {
       value = c .free-from .ensures .value ∙ ap (λ (k : ℕ). free-from xs 12 k) (c .next .ensures .value)
-    ∙ sym (cond-true (ltb (c .args .recent) 12) (first-free xs (c .args .recent)) _ (lt-ltb (c .args .recent) 12 (c .if-recent-ge12 .left)));
+          ∙ sym (cond-true (ltb (c .args .recent) 12) (first-free xs (c .args .recent)) _ (lt-ltb (c .args .recent) 12 (c .if-recent-ge12 .left)));
       within = c .free-from .ensures .within;
     }
