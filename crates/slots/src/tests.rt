@@ -1,6 +1,7 @@
 // Bodies put together out of segments, segments that fit or not, and slots as events move them.
 use crate::bodies::Sent;
 use crate::bodies::assemble;
+use crate::finds::find;
 use crate::images::ComesAgain;
 use crate::images::ComesAgainTest;
 use crate::progress::Landing;
@@ -11,7 +12,6 @@ use crate::progress::Segment;
 use crate::records::Arrival;
 use crate::records::Event;
 use crate::records::Slots;
-use crate::searches::find;
 use crate::sought::Arriving;
 use crate::sought::ArrivingTest;
 use crate::sought::Ending;

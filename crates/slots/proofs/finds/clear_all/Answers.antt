@@ -13,8 +13,8 @@ use Rattle.slots.specs.Slides.{free}
 use Rattle.slots.specs.declared.records.Slot.{Slot}
 use Rattle.slots.proofs.Changed.{same-map}
 use Rattle.slots.proofs.Vacated.{upto, upto-more, upto-all}
-use Rattle.slots.proofs.searches.clear_all.Needs as need
-use Rattle.slots.proofs.searches.clear_all.Needs.{then-passes, else-passes}
+use Rattle.slots.proofs.finds.clear_all.Needs as need
+use Rattle.slots.proofs.finds.clear_all.Needs.{then-passes, else-passes}
 
 pub returns : need.returns
 returns g c =

@@ -1,4 +1,4 @@
-// Searches among slots, and the clearing of those that pass a test.
+// Finding slots, and clearing those that pass a test.
 ghost use mathlib.Core.List.{map};
 ghost use mathlib.Core.Path.{_≡_};
 ghost use mathlib.Core.Bool.{cond};

@@ -8,7 +8,7 @@ use Rattle.slots.specs.Seen.{seen}
 use Rattle.slots.specs.Slides.{is-free}
 use Rattle.slots.specs.declared.records.Slot.{Slot}
 use Rattle.slots.proofs.Searched.{free-here, free-later, free-none}
-use Rattle.slots.proofs.searches.free_from.Needs as need
+use Rattle.slots.proofs.finds.free_from.Needs as need
 
 pub returns-then-passes : need.returns-then-passes
 returns-then-passes c =

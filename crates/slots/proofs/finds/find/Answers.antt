@@ -3,7 +3,7 @@ use mathlib.Core.Path.{_≡_, sym, ap, subst, _∙_}
 use Rattle.slots.specs.Seen.{seen}
 use Rattle.slots.specs.declared.records.Slot.{Slot}
 use Rattle.slots.proofs.Searched.{found-here, found-later, found-none}
-use Rattle.slots.proofs.searches.find.Needs as need
+use Rattle.slots.proofs.finds.find.Needs as need
 
 pub returns-then-passes : need.returns-then-passes
 returns-then-passes g c =
