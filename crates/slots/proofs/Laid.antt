@@ -1,9 +1,8 @@
 -- The law of pieces: what every segment keeps true of an object and the memory of its body.
-use mathlib.Core.Bool.{Bool, true, false, cond}
+use mathlib.Core.Bool.{true, false}
 use mathlib.Core.List.{List, [], _∷_}
-use mathlib.Core.Logic.{_⊎_, inl, inr}
 use mathlib.Core.Path.{_≡_, refl, sym, ap, subst, _∙_}
-use Prim.Native.Nat.{ℕ, zero, suc, _+_, _*_, _^_, _<_, _≤_}
+use Prim.Native.Nat.{ℕ, zero, suc, _+_, _*_, _^_, _≤_}
 use native.Mathlib.Omega.{arith}
 use lib.Bits.{bitOr}
 use lib.Dec.{eqb}
@@ -12,16 +11,15 @@ use Rattle.packed.proofs.Overwritten.{length-pasted, below-pasted, above-pasted
 use Rattle.packed.specs.Parts.{pasted}
 use Rattle.std.proofs.shelf.Elements.{all-weaker}
 use Rattle.std.proofs.shelf.Lists.{length-append}
-use Rattle.std.proofs.shelf.Tests.{both-ways, cases-eq, eq-eqb, ne-eqb, or-left, or-right, cond-true, cond-false}
+use Rattle.std.proofs.shelf.Tests.{both-ways, eq-eqb, ne-eqb, or-left, or-right, cond-true, cond-false}
 use Rattle.std.specs.Options.{valueOr}
 use Rattle.std.specs.declared.option.Option.{Option}
 use Rattle.std.specs.declared.option.Option.the-variants.{Some, None}
 use Rattle.std.specs.shelf.Lists.{All}
 use Rattle.slots.specs.Pieces.{part, gather, lengths, Sent, segment-of, Piece-laid, Receipt, begun, left-by, received, received-all, bytes-at, Laid-well, Pieces-make-the-body}
-use Rattle.slots.specs.Segments.{has, landing, grown, complete, piece-with, last-with}
+use Rattle.slots.specs.Segments.{has, landing, piece-with}
 use Rattle.slots.specs.declared.progress.Landing.{Landing}
 use Rattle.slots.specs.declared.progress.Landing.the-variants.{Misfit, Again, At}
-use Rattle.slots.specs.declared.progress.Progress.{Progress}
 use Rattle.slots.proofs.Landings.{Lands, lands}
 use Rattle.slots.proofs.Memory.{length-part}
 use Rattle.slots.proofs.Numbers.{has-none, has-marked}

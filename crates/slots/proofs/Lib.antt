@@ -8,3 +8,4 @@ pub mod Pieces
 pub mod Landings
 pub mod Laid
 mod Assembled
+pub mod Twelve

@@ -24,12 +24,7 @@ pub fn real_category(category: Option<Category>) -> Option<Category>
     ensures { λ r. ⌜ r ≡ category-of category ⌝ }
 {
     match category {
-        Some(
-            Category {
-                category: 0,
-                slide: 0,
-            },
-        ) => None,
+        Some(given) if given.category == 0 && given.slide == 0 => None,
         _ => category,
     }
 }

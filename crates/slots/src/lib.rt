@@ -9,6 +9,5 @@ pub mod questions;
 pub mod records;
 pub mod segments;
 pub mod sought;
-
 #[cfg(test)]
 mod tests;

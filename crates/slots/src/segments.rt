@@ -1,7 +1,7 @@
 // What a segment does to an arriving object.
 ghost use mathlib.Core.Path.{_≡_};
 ghost use mathlib.Core.Bool.{true};
-ghost use Prim.Native.Nat.{ℕ, _^_, _<_, _≤_};
+ghost use Prim.Native.Nat.{_<_};
 ghost use Rattle.slots.specs.Slides.{fresh};
 ghost use Rattle.slots.specs.Segments.{has, agrees, inner-fits, last-fits, fits, landing, grown, after-segment, complete};
 use crate::progress::Landing;

@@ -1,6 +1,6 @@
 use mathlib.Core.Bool.{false, cond}
 use mathlib.Core.List.{List, []}
-use mathlib.Core.Path.{_≡_, refl, sym, ap, _∙_}
+use mathlib.Core.Path.{_≡_, sym, ap, _∙_}
 use Prim.Native.Nat.{ℕ, _+_, _<_, _≤_}
 use native.Mathlib.Omega.{arith}
 use lib.Dec.{leb}
@@ -9,7 +9,7 @@ use Rattle.std.proofs.shelf.Tests.{le-leb, lt-leb, cond-true, cond-false}
 use Rattle.std.specs.declared.option.Option.the-variants.{Some, None}
 use Rattle.slots.specs.Bodies.{assembled, sent-of}
 use Rattle.slots.specs.Pieces as pieces
-use Rattle.slots.specs.Pieces.{Receipt, segment-of, memory-with}
+use Rattle.slots.specs.Pieces.{Receipt, received, segment-of, memory-with}
 use Rattle.slots.specs.Segments.{landing, after-segment}
 use Rattle.slots.specs.declared.bodies.Sent.{Sent}
 use Rattle.slots.specs.declared.progress.Progress.{Progress}
@@ -40,20 +40,23 @@ loop-segment-holds c =
 none-sent : Sent
 none-sent = record { number = 0; last = false; bytes = record { ptr = (0, 0); name = 0; now = [] } }
 
+-- one segment more
+one-more : (base : ℕ) (r next : Receipt) (s : pieces.Sent) (p q : Progress) (m n : List ℕ) → p ≡ r .progress → m ≡ r .memory → next ≡ received base r s → q ≡ after-segment p (segment-of s) → n ≡ memory-with (landing p (segment-of s)) base (s .bytes) m → (q ≡ next .progress) × (n ≡ next .memory)
+one-more base r next s p q m n ep em e eq en = (
+  eq ∙ ap (λ (x : Progress). after-segment x (segment-of s)) ep ∙ ap (λ (x : Receipt). x .progress) (sym e),
+  en ∙ (λ j. memory-with (landing (ep j) (segment-of s)) base (s .bytes) (em j)) ∙ ap (λ (x : Receipt). x .memory) (sym e),
+)
+
 pub loop-segment-again : need.loop-segment-again
 unfolding none-sent
 loop-segment-again c =
     let base = c .args .base in
     let ss = c .args .sent .now in
     let i = c .loop-segment .segment-index in
-    let s : pieces.Sent = sent-of (getD ss i none-sent) in
-    let r = assembled base (c .args .size) (c .args .memory .now) (take i ss) in
+    let so-far = assembled base (c .args .size) (c .args .memory .now) (take i ss) in
+    let then-so-far = assembled base (c .args .size) (c .args .memory .now) (take (i + 1) ss) in
     let more = assembled-more base (c .args .size) (c .args .memory .now) ss i none-sent (c .loop-segment-test .taken) in
-    let p = c .loop-segment .inv .0 in
-    let m = c .loop-segment .inv .1 in (
-      c .receive .ensures .progress ∙ ap (λ (x : Progress). after-segment x (segment-of s)) p ∙ ap (λ (x : Receipt). x .progress) (sym more),
-      c .receive .ensures .memory ∙ (λ j. memory-with (landing (p j) (segment-of s)) base (s .bytes) (m j)) ∙ ap (λ (x : Receipt). x .memory) (sym more),
-    )
+    one-more base so-far then-so-far (sent-of (getD ss i none-sent)) (c .loop-segment .progress) (c .receive .last .progress) (c .loop-segment .memory) (c .receive .last .memory) (c .loop-segment .inv .0) (c .loop-segment .inv .1) more (c .receive .ensures .progress) (c .receive .ensures .memory)
 
 pub receive-requires : need.receive-requires
 receive-requires c κs =
