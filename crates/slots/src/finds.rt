@@ -46,7 +46,7 @@ fn free_from(records: &[Slot], n: usize, k: usize) -> Option<usize>
     ensures within { λ r. ⌜ found r (λ i. i < 12) ⌝ }
 {
     let mut at = k;
-    for tried in 0..n {
+    for _tried in 0..n {
         if Free.passes(&records[at]) {
             return Some(at);
         }
@@ -68,7 +68,8 @@ fn clear_all<T: SlotTest>(records: &mut [Slot], test: &T)
 }
 
 impl Slots {
-    // The first free slot behind the one given last, going round and ending with that one; none where there is no such slot.
+    // The first free slot behind slot `recent`, which was given last, going round and ending with that one; none where
+    // no slot is free, or where there is no slot `recent`.
     pub fn first_free(&self, recent: usize) -> Option<usize>
         ensures value { λ r. ⌜ r ≡ cond (ltb recent 12) (first-free (all-seen (now (self .entry))) recent) None ⌝ }
         ensures within { λ r. ⌜ found r (λ k. k < 12) ⌝ }

@@ -8,4 +8,4 @@ use Rattle.slots.proofs.finds.free_from.Given as given
 -- what is left gives the answer
 abbrev pub Inv-loop-tried : given.InvT-loop-tried
 Inv-loop-tried l =
-    (l .at < 12) × (free-from (map seen (l .records)) (l .n - l .tried) (l .at) ≡ free-from (map seen (l .records)) (l .n) (l .k))
+    (l .at < 12) × (free-from (map seen (l .records)) (l .n - l .-tried) (l .at) ≡ free-from (map seen (l .records)) (l .n) (l .k))
