@@ -1,9 +1,8 @@
 -- The law of pieces: what every segment keeps true of an object and the memory of its body.
-use mathlib.Core.Bool.{Bool, true, false, cond}
+use mathlib.Core.Bool.{true, false}
 use mathlib.Core.List.{List, [], _∷_}
-use mathlib.Core.Logic.{_⊎_, inl, inr}
 use mathlib.Core.Path.{_≡_, refl, sym, ap, subst, _∙_}
-use Prim.Native.Nat.{ℕ, zero, suc, _+_, _*_, _^_, _<_, _≤_}
+use Prim.Native.Nat.{ℕ, zero, suc, _+_, _*_, _^_, _≤_}
 use native.Mathlib.Omega.{arith}
 use lib.Bits.{bitOr}
 use lib.Dec.{eqb}
@@ -12,16 +11,15 @@ use Rattle.packed.proofs.Overwritten.{length-pasted, below-pasted, above-pasted
 use Rattle.packed.specs.Parts.{pasted}
 use Rattle.std.proofs.shelf.Elements.{all-weaker}
 use Rattle.std.proofs.shelf.Lists.{length-append}
-use Rattle.std.proofs.shelf.Tests.{both-ways, cases-eq, eq-eqb, ne-eqb, or-left, or-right, cond-true, cond-false}
+use Rattle.std.proofs.shelf.Tests.{both-ways, eq-eqb, ne-eqb, or-left, or-right, cond-true, cond-false}
 use Rattle.std.specs.Options.{valueOr}
 use Rattle.std.specs.declared.option.Option.{Option}
 use Rattle.std.specs.declared.option.Option.the-variants.{Some, None}
 use Rattle.std.specs.shelf.Lists.{All}
-use Rattle.slots.specs.Pieces.{part, gather, lengths, Sent, segment-of, Piece-laid, Receipt, begun, left-by, received, received-all, bytes-at, Laid-well, Pieces-make-the-body}
-use Rattle.slots.specs.Segments.{has, landing, grown, complete, piece-with, last-with}
+use Rattle.slots.specs.Pieces.{part, gather, lengths, Sent, segment-of, Piece-laid, Receipt, begun, left-by, received, received-all, bytes-at, Once, Laid-well, Pieces-make-the-body}
+use Rattle.slots.specs.Segments.{has, landing, piece-with}
 use Rattle.slots.specs.declared.progress.Landing.{Landing}
 use Rattle.slots.specs.declared.progress.Landing.the-variants.{Misfit, Again, At}
-use Rattle.slots.specs.declared.progress.Progress.{Progress}
 use Rattle.slots.proofs.Landings.{Lands, lands}
 use Rattle.slots.proofs.Memory.{length-part}
 use Rattle.slots.proofs.Numbers.{has-none, has-marked}
@@ -41,6 +39,7 @@ pub record Stands (base B : ℕ) (m : List ℕ) (r : Receipt) : Type 0 where
   pub long : length (r .memory) ≡ length m
   pub pieces : (p : ℕ) → Agrees (r .progress .piece) p → Pieces base p B (r .memory) (r .progress .last) (r .progress .taken) (bytes-at (r .laid))
   pub owned : (p : ℕ) → Agrees (r .progress .piece) p → All (Owned p (r .progress .taken) (r .laid)) (r .laid)
+  pub once : Once (r .laid)
   pub before : take base (r .memory) ≡ take base m
   pub behind : drop (base + B) (r .memory) ≡ drop (base + B) m
 
@@ -55,6 +54,7 @@ stands-begun base B m room = record {
     known = λ i e. let z : _≡_ {A = ℕ} 0 1 = cc in absurd (omega arith);
   };
   owned = λ p _. tt;
+  once = tt;
   before = refl;
   behind = refl;
 }
@@ -116,6 +116,7 @@ module _ (base B : ℕ) (m : List ℕ) (r : Receipt) (h : Stands base B m r) (s 
     long = length-pasted (r .memory) (base + o) (s .bytes) fits-in ∙ h .long;
     pieces = λ p a. subst (λ (i : ℕ). Pieces base i B (after .memory) (after .progress .last) (after .progress .taken) (bytes-at (after .laid))) (a q refl) pieces-at-q;
     owned = λ p a. subst (λ (i : ℕ). All (Owned i (after .progress .taken) (after .laid)) (after .laid)) (a q refl) owned-at-q;
+    once = (all-weaker (Owned q (r .progress .taken) (r .laid)) _ (λ y w e. both-ways (has (s .number) (r .progress .taken)) (l .new) (rw e (w .0))) (r .laid) (h .owned q (f .same)), h .once);
     before = below-pasted (r .memory) (base + o) (s .bytes) fits-in base (omega arith) ∙ h .before;
     behind = above-pasted (r .memory) (base + o) (s .bytes) fits-in (base + B) (omega (arith, inside)) ∙ h .behind;
   }
@@ -161,6 +162,7 @@ module _ (base B : ℕ) (m : List ℕ) (r : Receipt) (h : Stands base B m r) whe
 
   pub laid-well : Laid-well base B m r
   laid-well = record {
+    once = h .once;
     numbered = all-weaker (Owned p (r .progress .taken) (r .laid)) _ (λ x o. (piece-of x o .small, o .2)) (r .laid) (h .owned p (agrees-self (r .progress .piece)));
     some = each _ (λ x e c. c .some);
     within = each _ (λ x e c. omega (arith, e, c .inside));

@@ -1,12 +1,11 @@
 -- What is known of a segment that lands.
 use mathlib.Core.Bool.{Bool, true, false, cond, _||_}
-use mathlib.Core.Path.{_≡_, refl, sym}
-use Prim.Native.Nat.{ℕ, _<_, _≤_}
+use mathlib.Core.Path.{_≡_, refl}
+use Prim.Native.Nat.{ℕ, _<_}
 use native.Mathlib.Omega.{arith}
 use lib.Dec.{eqb, ltb}
 use Rattle.std.proofs.shelf.Tests.{or-parts, ltb-false, eqb-false}
 use Rattle.slots.specs.Segments.{has, fits, offset, landing}
-use Rattle.slots.specs.declared.progress.Landing.{Landing}
 use Rattle.slots.specs.declared.progress.Landing.the-variants.{Misfit, Again, At}
 use Rattle.slots.specs.declared.progress.Progress.{Progress}
 use Rattle.slots.specs.declared.progress.Segment.{Segment}

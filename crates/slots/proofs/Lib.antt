@@ -7,3 +7,5 @@ pub mod Memory
 pub mod Pieces
 pub mod Landings
 pub mod Laid
+mod Assembled
+pub mod Twelve

@@ -1,5 +1,5 @@
 -- Segments in any order: where each lies, and the body that they make.
-use mathlib.Core.Bool.{Bool, cond, true, false, _&&_, _||_}
+use mathlib.Core.Bool.{Bool, cond, true, false, _||_}
 use mathlib.Core.List.{List, [], _++_}
 use mathlib.Core.Logic.{_⊎_, inl, inr}
 use mathlib.Core.Path.{_≡_, refl, sym, ap, ap₂, _∙_}

@@ -1,10 +1,9 @@
 -- Whether two images say the same is whether they are equal.
-use mathlib.Core.Bool.{Bool, true, false, _&&_}
+use mathlib.Core.Bool.{false, _&&_}
 use mathlib.Core.Path.{_≡_, refl, ap}
 use Prim.Native.Nat.{ℕ}
 use native.Mathlib.Omega.{arith}
 use lib.Dec.{eqb}
-use Rattle.header.specs.Names.{NameRecord, same-name}
 use Rattle.header.specs.declared.kinds.Category.{Category}
 use Rattle.header.proofs.Equal.{same-decides}
 use Rattle.moment.specs.declared.times.Time.{Time}

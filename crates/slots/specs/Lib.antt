@@ -4,3 +4,4 @@ pub mod Seen
 pub mod Searches
 pub mod Contents
 pub mod Pieces
+pub mod Bodies

@@ -82,9 +82,15 @@ abbrev pub bytes-at : List Piece-laid → ℕ → List ℕ
 bytes-at [] n = []
 bytes-at (x ∷ xs) n = cond (eqb n (x .number)) (x .bytes) (bytes-at xs n)
 
+-- no number comes twice
+abbrev pub Once : List Piece-laid → Type 0
+Once [] = Unit {0}
+Once (x ∷ xs) = All (λ (y : Piece-laid). x .number ≡ y .number → ⊥) xs × Once xs
+
 -- how the pieces of a body of B bytes at base lie in memory, which was m at first
 pub record Laid-well (base B : ℕ) (m : List ℕ) (r : Receipt) : Type 0 where
-  -- each has a number below 64, its own one, and some bytes
+  -- each has a number below 64, which no other has, and some bytes
+  pub once : Once (r .laid)
   pub numbered : All (λ (x : Piece-laid). (x .number < 64) × (bytes-at (r .laid) (x .number) ≡ x .bytes)) (r .laid)
   pub some : All (λ (x : Piece-laid). 0 < length (x .bytes)) (r .laid)
   -- each lies within the body

@@ -1,10 +1,9 @@
 -- The records of the code, by what they hold. A free slot's name is not part of that.
 use mathlib.Core.List.{List, map}
-use Prim.Native.Nat.{ℕ}
 use Rattle.header.specs.Kept.{name-of}
 use Rattle.header.specs.Names.{NameRecord}
 use Rattle.slots.specs.Slides as slides
-use Rattle.slots.specs.Slides.{Image, Object, Slide, free, arriving, held}
+use Rattle.slots.specs.Slides.{Object, Slide, free, arriving, held}
 use Rattle.slots.specs.declared.records.Arrival.{Arrival}
 use Rattle.slots.specs.declared.records.Event.{Event}
 use Rattle.slots.specs.declared.records.Event.the-variants.{Header, Segment, Expiry, Clearing}

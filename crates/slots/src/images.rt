@@ -24,12 +24,7 @@ pub fn real_category(category: Option<Category>) -> Option<Category>
     ensures { λ r. ⌜ r ≡ category-of category ⌝ }
 {
     match category {
-        Some(
-            Category {
-                category: 0,
-                slide: 0,
-            },
-        ) => None,
+        Some(given) if given.category == 0 && given.slide == 0 => None,
         _ => category,
     }
 }
@@ -59,12 +54,7 @@ impl Arrival {
             expire: header.expire,
             trigger: header.trigger,
             category: real_category(header.category),
-            progress: Progress {
-                size: header.body_size,
-                piece: None,
-                last: None,
-                taken: 0,
-            },
+            progress: Progress::new(header.body_size),
         }
     }
 
@@ -84,6 +74,7 @@ impl Arrival {
 }
 
 // Its object arrives under this TransportId from a header that said the same.
+#[derive(Clone, Copy)]
 pub struct ComesAgain<'a> {
     pub transport: u16,
     pub header: Header<'a>,

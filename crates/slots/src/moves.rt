@@ -120,7 +120,8 @@ fn take_one(records: &mut [Slot], k: usize, arrival: Arrival, name: Name)
 impl Slots {
     // All slots free.
     pub fn new() -> Slots
-        ensures { λ r. ⌜ all-seen r ≡ replicate 12 free ⌝ }
+        ensures seen { λ r. ⌜ all-seen r ≡ replicate 12 free ⌝ }
+        ensures names { λ r. ⌜ all-names r ≡ replicate 12 no-name ⌝ }
     {
         let slot = Slot {
             state: State::Free,

@@ -1,13 +1,26 @@
 // What a segment does to an arriving object.
 ghost use mathlib.Core.Path.{_≡_};
 ghost use mathlib.Core.Bool.{true};
-ghost use Prim.Native.Nat.{ℕ, _^_, _<_, _≤_};
+ghost use Prim.Native.Nat.{_<_};
+ghost use Rattle.slots.specs.Slides.{fresh};
 ghost use Rattle.slots.specs.Segments.{has, agrees, inner-fits, last-fits, fits, landing, grown, after-segment, complete};
 use crate::progress::Landing;
 use crate::progress::Progress;
 use crate::progress::Segment;
 
 impl Progress {
+    // An object of that size, of which nothing has come yet.
+    pub fn new(size: u32) -> Progress
+        ensures { λ r. ⌜ r ≡ fresh size ⌝ }
+    {
+        Progress {
+            size,
+            piece: None,
+            last: None,
+            taken: 0,
+        }
+    }
+
     // Whether the number is among those taken.
     fn has(&self, number: u16) -> bool
         ensures { λ r. ⌜ r ≡ has number (now (self .entry) .taken) ⌝ }

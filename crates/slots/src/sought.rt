@@ -20,6 +20,7 @@ pub trait SlotTest {
 }
 
 // It is free.
+#[derive(Clone, Copy)]
 pub struct Free;
 
 pub impl SlotTest for Free as FreeTest {
@@ -34,6 +35,7 @@ pub impl SlotTest for Free as FreeTest {
 }
 
 // Its object arrives under this TransportId.
+#[derive(Clone, Copy)]
 pub struct Arriving(pub u16);
 
 pub impl SlotTest for Arriving as ArrivingTest {
@@ -48,6 +50,7 @@ pub impl SlotTest for Arriving as ArrivingTest {
 }
 
 // It has expired by this moment.
+#[derive(Clone, Copy)]
 pub struct Ending(pub u64);
 
 pub impl SlotTest for Ending as EndingTest {
@@ -63,6 +66,7 @@ pub impl SlotTest for Ending as EndingTest {
 }
 
 // It holds the slide with this accession number.
+#[derive(Clone, Copy)]
 pub struct Numbered(pub u32);
 
 pub impl SlotTest for Numbered as NumberedTest {
@@ -77,6 +81,7 @@ pub impl SlotTest for Numbered as NumberedTest {
 }
 
 // It holds the slide of this name.
+#[derive(Clone, Copy)]
 pub struct Named<'a>(pub Label<'a>);
 
 pub impl<'a> SlotTest for Named<'a> as NamedTest {
@@ -91,6 +96,7 @@ pub impl<'a> SlotTest for Named<'a> as NamedTest {
 }
 
 // It holds the slide of this name and version.
+#[derive(Clone, Copy)]
 pub struct Versioned<'a> {
     pub name: Label<'a>,
     pub version: u8,

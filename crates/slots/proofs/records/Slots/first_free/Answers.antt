@@ -1,4 +1,4 @@
-use mathlib.Core.Path.{_≡_, sym, ap, _∙_}
+use mathlib.Core.Path.{sym, ap, _∙_}
 use Prim.Native.Nat.{ℕ}
 use lib.Dec.{ltb}
 use Rattle.std.proofs.shelf.Tests.{lt-ltb, cond-true}
@@ -9,5 +9,8 @@ use Rattle.slots.proofs.records.Slots.first_free.Needs as need
 pub returns : need.returns
 returns c =
     let xs = all-seen (c .args .self .now) in
-    c .free-from .ensures ∙ ap (λ (k : ℕ). free-from xs 12 k) (c .next .ensures .value)
-    ∙ sym (cond-true (ltb (c .args .recent) 12) (first-free xs (c .args .recent)) _ (lt-ltb (c .args .recent) 12 (c .if-recent-ge12 .left)))
+    record {
+      value = c .free-from .ensures .value ∙ ap (λ (k : ℕ). free-from xs 12 k) (c .next .ensures .value)
+          ∙ sym (cond-true (ltb (c .args .recent) 12) (first-free xs (c .args .recent)) _ (lt-ltb (c .args .recent) 12 (c .if-recent-ge12 .left)));
+      within = c .free-from .ensures .within;
+    }

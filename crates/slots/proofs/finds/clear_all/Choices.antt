@@ -3,7 +3,7 @@ use mathlib.Core.Path.{_≡_}
 use lib.ListN.{take, drop}
 use Rattle.slots.specs.Searches.{vacated}
 use Rattle.slots.specs.Seen.{seen, label}
-use Rattle.slots.proofs.searches.clear_all.Given as given
+use Rattle.slots.proofs.finds.clear_all.Given as given
 
 -- the slots before this one are done, and the others are as they were
 abbrev pub Inv-loop-slot : given.InvT-loop-slot

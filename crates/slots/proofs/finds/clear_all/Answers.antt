@@ -1,4 +1,4 @@
-use mathlib.Core.Bool.{Bool, cond}
+use mathlib.Core.Bool.{Bool, true, false, cond}
 use mathlib.Core.List.{List, map}
 use mathlib.Core.Path.{_≡_, refl, sym, ap, _∙_}
 use Prim.Native.Nat.{ℕ, _+_, _<_}
@@ -13,8 +13,8 @@ use Rattle.slots.specs.Slides.{free}
 use Rattle.slots.specs.declared.records.Slot.{Slot}
 use Rattle.slots.proofs.Changed.{same-map}
 use Rattle.slots.proofs.Vacated.{upto, upto-more, upto-all}
-use Rattle.slots.proofs.searches.clear_all.Needs as need
-use Rattle.slots.proofs.searches.clear_all.Needs.{then-passes, else-passes}
+use Rattle.slots.proofs.finds.clear_all.Needs as need
+use Rattle.slots.proofs.finds.clear_all.Needs.{then-passes, else-passes}
 
 pub returns : need.returns
 returns g c =
@@ -34,6 +34,13 @@ one-more test first rs new i d y there long so is looks name =
       ap (map label) is ∙ same-map label rs i d y h (ap name-of name) ∙ so .1,
     )
 
+-- what the test says
+looks-free : (b : Bool) (x y : slides.Slot) → true ≡ b → y ≡ free → y ≡ cond b free x
+looks-free b x y t e = e ∙ sym (cond-true b free x (sym t))
+
+looks-same : (b : Bool) (x : slides.Slot) → false ≡ b → x ≡ cond b free x
+looks-same b x t = sym (cond-false b free x (sym t))
+
 pub loop-slot-again : need.loop-slot-again
 loop-slot-again g c =
     let test = g .T·SlotTest .test (c .args .test .now) in
@@ -43,7 +50,7 @@ loop-slot-again g c =
     let x = seen (getD rs i d) in
     elim (c .if-passes .came) [
       | then-passes w ↦
-          one-more test (c .args .records .now) rs (c .if-passes .records) i d (w .on .last .self) (c .loop-slot-test .taken) (c .loop-slot .kept .records) (c .loop-slot .inv) (w .records-is) (w .on .ensures .seen ∙ sym (cond-true (test x) free x (sym (w .if-passes .ensures tt)))) (w .on .ensures .name)
+          one-more test (c .args .records .now) rs (c .if-passes .records) i d (w .on .last .self) (c .loop-slot-test .taken) (c .loop-slot .kept .records) (c .loop-slot .inv) (w .records-is) (looks-free (test x) x (seen (w .on .last .self)) (w .if-passes .ensures tt) (w .on .ensures .seen)) (w .on .ensures .name)
       | else-passes w ↦
-          one-more test (c .args .records .now) rs (c .if-passes .records) i d (getD rs i d) (c .loop-slot-test .taken) (c .loop-slot .kept .records) (c .loop-slot .inv) (w .records-is) (sym (cond-false (test x) free x (sym (w .if-passes .ensures tt)))) refl
+          one-more test (c .args .records .now) rs (c .if-passes .records) i d (getD rs i d) (c .loop-slot-test .taken) (c .loop-slot .kept .records) (c .loop-slot .inv) (w .records-is) (looks-same (test x) x (w .if-passes .ensures tt)) refl
     ]

@@ -3,7 +3,7 @@ use mathlib.Core.Path.{_≡_}
 use lib.ListN.{drop}
 use Rattle.slots.specs.Searches.{first-from, first-slot}
 use Rattle.slots.specs.Seen.{seen}
-use Rattle.slots.proofs.searches.find.Given as given
+use Rattle.slots.proofs.finds.find.Given as given
 
 -- what is left gives the answer
 abbrev pub Inv-loop-k : given.InvT-loop-k

@@ -1,10 +1,11 @@
-// Searches among slots, and the clearing of those that pass a test.
+// Finding slots, and clearing those that pass a test.
 ghost use mathlib.Core.List.{map};
 ghost use mathlib.Core.Path.{_≡_};
 ghost use mathlib.Core.Bool.{cond};
 ghost use Prim.Native.Nat.{_<_};
 ghost use lib.Dec.{ltb};
 ghost use lib.ListN.{length};
+ghost use Rattle.std.specs.Slices.{found};
 ghost use Rattle.std.specs.declared.option.Option.the-variants.{None};
 ghost use Rattle.slots.specs.Searches.{first-slot, next, free-from, first-free, vacated};
 ghost use Rattle.slots.specs.Seen.{seen, label, all-seen, all-names};
@@ -17,7 +18,8 @@ use crate::sought::SlotTest;
 
 // The first slot that passes the test.
 pub fn find<T: SlotTest>(records: &[Slot], test: &T) -> Option<usize>
-    ensures { λ r. ⌜ r ≡ first-slot (T·SlotTest .test (now (test .entry))) (map seen (now (records .entry))) ⌝ }
+    ensures value { λ r. ⌜ r ≡ first-slot (T·SlotTest .test (now (test .entry))) (map seen (now (records .entry))) ⌝ }
+    ensures within { λ r. ⌜ found r (λ k. k < length (now (records .entry))) ⌝ }
 {
     for (k, slot) in records.iter().enumerate() {
         if test.passes(slot) {
@@ -40,10 +42,11 @@ fn next(k: usize) -> usize
 fn free_from(records: &[Slot], n: usize, k: usize) -> Option<usize>
     requires twelve { ⌜ length (now records) ≡ 12 ⌝ }
     requires within { ⌜ k < 12 ⌝ }
-    ensures { λ r. ⌜ r ≡ free-from (map seen (now (records .entry))) n k ⌝ }
+    ensures value { λ r. ⌜ r ≡ free-from (map seen (now (records .entry))) n k ⌝ }
+    ensures within { λ r. ⌜ found r (λ i. i < 12) ⌝ }
 {
     let mut at = k;
-    for tried in 0..n {
+    for _tried in 0..n {
         if Free.passes(&records[at]) {
             return Some(at);
         }
@@ -65,9 +68,11 @@ fn clear_all<T: SlotTest>(records: &mut [Slot], test: &T)
 }
 
 impl Slots {
-    // The first free slot behind the one given last, going round and ending with that one; none where there is no such slot.
+    // The first free slot behind slot `recent`, which was given last, going round and ending with that one; none where
+    // no slot is free, or where there is no slot `recent`.
     pub fn first_free(&self, recent: usize) -> Option<usize>
-        ensures { λ r. ⌜ r ≡ cond (ltb recent 12) (first-free (all-seen (now (self .entry))) recent) None ⌝ }
+        ensures value { λ r. ⌜ r ≡ cond (ltb recent 12) (first-free (all-seen (now (self .entry))) recent) None ⌝ }
+        ensures within { λ r. ⌜ found r (λ k. k < 12) ⌝ }
     {
         if recent >= 12 {
             return None;
