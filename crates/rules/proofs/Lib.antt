@@ -7,6 +7,7 @@ pub mod Finds
 mod Follows
 pub mod Filters
 pub mod Sounds
+pub mod Settings
 pub mod Choices
 pub mod Kept
 pub mod Rooms

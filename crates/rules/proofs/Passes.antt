@@ -299,11 +299,11 @@ pub record Ready (s : State) : Type 0 where
   pub ahead : All (λ (e : Entry ℕ). s .clock < e .key) (s .waiting)
   pub alive : All (λ x. ends (s .clock) x ≡ false) (s .slots)
 
-none-lost : (t n : ℕ) (xs : List Slot) → All (λ x. ends t x ≡ false) xs → not (any (λ x. ends t x && numbered n x) xs) ≡ true
+pub none-lost : (t n : ℕ) (xs : List Slot) → All (λ x. ends t x ≡ false) xs → not (any (λ x. ends t x && numbered n x) xs) ≡ true
 none-lost t n xs h =
     ap not (any-none (λ x. ends t x && numbered n x) xs (all-mono (λ x. ends t x ≡ false) (λ x. (ends t x && numbered n x) ≡ false) (λ x e. ap (λ b. b && numbered n x) e) xs h))
 
-every : {X : Type 0} (P : X → Type 0) → ((x : X) → P x) → (xs : List X) → All P xs
+pub every : {X : Type 0} (P : X → Type 0) → ((x : X) → P x) → (xs : List X) → All P xs
 every P i [] = tt
 every P i (x ∷ xs) = (i x, every P i xs)
 

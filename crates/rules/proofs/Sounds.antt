@@ -363,7 +363,7 @@ sound-fire t w h ahead alive =
     }
 
 -- what has expired by t is gone
-alive-after : (t : ℕ) (s : State) (k : ℕ) → ends t (slot-at (vacate (ends t) s) k) ≡ false
+pub alive-after : (t : ℕ) (s : State) (k : ℕ) → ends t (slot-at (vacate (ends t) s) k) ≡ false
 alive-after t s k = rw (getD-vacate (ends t) (s .slots) k) (go (ends t (slot-at s k)) refl)
   where
     go : (b : Bool) → ends t (slot-at s k) ≡ b → ends t (cond b free (slot-at s k)) ≡ false
@@ -399,7 +399,7 @@ keys-up (e ∷ ws) h = (row ws (h .0), keys-up ws (h .1))
     row [] a = tt
     row (d ∷ vs) a = (ltb-false (d .key) (e .key) (sym (later (d .key) e) ∙ a .0), row vs (a .1))
 
-every-slot : (P : Slot → Type 0) (xs : List Slot) → ((k : ℕ) → P (getD xs k free)) → All P xs
+pub every-slot : (P : Slot → Type 0) (xs : List Slot) → ((k : ℕ) → P (getD xs k free)) → All P xs
 every-slot P [] i = tt
 every-slot P (x ∷ xs) i = (i 0, every-slot P xs (λ k. i (suc k)))
 
