@@ -8,6 +8,7 @@ mod Follows
 pub mod Filters
 pub mod Sounds
 pub mod Settings
+pub mod Props
 pub mod Choices
 pub mod Kept
 pub mod Rooms
