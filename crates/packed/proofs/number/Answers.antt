@@ -17,11 +17,11 @@ fits n b i l h k =
     let p : 2 ^ (8 * (i + 1)) ≤ 2 ^ 64 = pow_mono m in
     omega (arith, wider n b i h k)
 
-pub overflow-mul-n : goal.overflow-mul-n
-overflow-mul-n c = omega (arith, fits c.loop-b.n 0 c.loop-b.b-index (omega arith) c.loop-b.invariant.1 (omega arith))
+pub overflow_mul-n : goal.overflow_mul-n
+overflow_mul-n c = omega (arith, fits c.loop-b.n 0 c.loop-b.b-index (omega arith) c.loop-b.invariant.1 (omega arith))
 
-pub overflow-add-n : goal.overflow-add-n
-overflow-add-n c = omega (arith, fits c.loop-b.n c.from.result c.loop-b.b-index (omega arith) c.loop-b.invariant.1 (omega (arith, c.type-inv.bytes c.loop-b.b-index)))
+pub overflow_add-n : goal.overflow_add-n
+overflow_add-n c = omega (arith, fits c.loop-b.n c.from.result c.loop-b.b-index (omega arith) c.loop-b.invariant.1 (omega (arith, c.type_inv.bytes c.loop-b.b-index)))
 
 pub loop-b-preserved : goal.loop-b-preserved
 loop-b-preserved c =
@@ -30,7 +30,7 @@ loop-b-preserved c =
     let n = c.loop-b.n in
     let step : whole_from n (drop i xs) ≡ whole_from (n * 256 + get_or xs i 0) (drop (i + 1) xs) = at_drop_more (whole_from n) xs i 0 c.loop-b-test.true in (
       ap (λ (b : ℕ). whole_from (n * 256 + b) (drop (i + 1) xs)) c.from.ensures ∙ sym step ∙ c.loop-b.invariant.0,
-      wider n c.from.result i c.loop-b.invariant.1 (omega (arith, c.type-inv.bytes i)),
+      wider n c.from.result i c.loop-b.invariant.1 (omega (arith, c.type_inv.bytes i)),
     )
 
 pub returns : goal.returns

@@ -15,5 +15,5 @@ put_is xs ys part at e =
 pub returns : goal.returns
 returns c = record {
   fits = sym (le-leb _ _ (omega arith));
-  after = put_is c.args.memory.now c.copy-from-slice.new.self c.args.part.now c.args.at c.copy-from-slice.ensures.after;
+  after = put_is c.args.memory.now c.copy_from_slice.new.self c.args.part.now c.args.at c.copy_from_slice.ensures.after;
 }
