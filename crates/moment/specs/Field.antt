@@ -1,5 +1,5 @@
 -- The time field, bit by bit.
-use Rattle.std.specs.Prelude.{ℕ, ◌+◌, ◌*◌, Bool, cond, ◌&&◌, List, length, Ok, Err, Result, ◌==◌, nat_le, nat_lt}
+use Rattle.std.specs.Prelude.{ℕ, ◌+◌, ◌*◌, cond, ◌&&◌, List, length, Ok, Err, Result, ◌==◌, nat_le, nat_lt}
 use Rattle.packed.specs.Bits.{field, whole}
 use Rattle.moment.specs.Days.{join_of}
 use Rattle.moment.specs.declared.times.Time.{Time}

@@ -1,6 +1,6 @@
 -- What a part of memory holds after another was written over it.
 use Rattle.std.proofs.Common.{◌≡◌, ℕ, ◌+◌, ◌-◌, ◌≤◌, List, ◌++◌, length, take, drop, sym, refl, ap, ◌∙◌, arith}
-use Rattle.std.proofs.lemmas.List.{length-append, length-drop, length-take-le, drop_at, take_at, take-append-le, take-take, drop-drop, append_assoc, drop-append-le}
+use Rattle.std.proofs.lemmas.List.{length-append, length-drop, length-take-le, drop_at, take_at, take-append-le, take-take, drop-drop, append_assoc}
 use Rattle.packed.specs.Parts.{pasted}
 
 module _ (xs : List ℕ) (at : ℕ) (part : List ℕ) (fits : at + length part ≤ length xs) where

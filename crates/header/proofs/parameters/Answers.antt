@@ -4,8 +4,8 @@ use Rattle.header.specs.Finds.{found_of}
 use Rattle.header.proofs.Steps.{shorter, one_more}
 use Rattle.header.proofs.parameters.Goals as goal
 
-pub overflow-sub-place : goal.overflow-sub-place
-overflow-sub-place c =
+pub overflow_sub-place : goal.overflow_sub-place
+overflow_sub-place c =
     omega (arith, shorter c.loop-left.left.now (part_of c.in-Some.parameter) (sym c.in-Some.ensures))
 
 pub loop-left-smaller : goal.loop-left-smaller
@@ -16,5 +16,5 @@ loop-left-preserved c =
     let xs = c.loop-left.left.now in
     let p = part_of c.in-Some.parameter in (
       omega (arith, shorter xs p (sym c.in-Some.ensures), c.loop-left.invariant.0),
-      one_more c.args.kind c.loop-left.place xs (found_of c.loop-left.found) (found_of c.take.new.self) p c.in-Some.ensures c.in-ok-take.ensures c.loop-left-test.true ∙ c.loop-left.invariant.1,
+      one_more c.args.kind c.loop-left.place xs (found_of c.loop-left.found) (found_of c.take.new.self) p c.in-Some.ensures c.in_ok-take.ensures c.loop-left-test.true ∙ c.loop-left.invariant.1,
     )

@@ -56,16 +56,16 @@ unfolding header_of
 cut_short xs slot e h is =
     ap Err is ∙ sym (ap (λ (s : Result (Unit {0}) Fault). and_then s (λ u. read_with (core_in (whole (take 7 xs))) (length xs) (drop 7 xs) slot)) (cond-false (leb 7 (length xs)) _ _ (lt-leb 7 (length xs) h)))
 
-pub returns-in-default : goal.returns-in-default
-returns-in-default c =
+pub returns-in_default : goal.returns-in_default
+returns-in_default c =
     let short : length c.args.bytes.now < 7 = search rules in
-    let value = cut_short c.args.bytes.now c.args.slot-size c.refused.result short c.refused.ensures in
-    let rest = read c.args.bytes.now c.args.slot-size _ (λ i. omega (arith, c.type-inv.bytes i)) value in
+    let value = cut_short c.args.bytes.now c.args.slot_size c.refused.result short c.refused.ensures in
+    let rest = read c.args.bytes.now c.args.slot_size _ (λ i. omega (arith, c.type_inv.bytes i)) value in
     record { value = value; sound = rest.sound; law = rest.law }
 
 pub returns : goal.returns
 returns c =
     let long : 7 ≤ length c.args.bytes.now = search rules in
-    let value = split c.args.bytes.now c.args.slot-size _ _ long c.unpack-core.ensures c.read_with.ensures in
-    let rest = read c.args.bytes.now c.args.slot-size _ (λ i. omega (arith, c.type-inv.bytes i)) value in
+    let value = split c.args.bytes.now c.args.slot_size _ _ long c.unpack-core.ensures c.read_with.ensures in
+    let rest = read c.args.bytes.now c.args.slot_size _ (λ i. omega (arith, c.type_inv.bytes i)) value in
     record { value = value; sound = rest.sound; law = rest.law }

@@ -19,4 +19,4 @@ read i (head ∷ xs) b some few =
 
 pub returns-in-len1-up : goal.returns-in-len1-up
 returns-in-len1-up c =
-    read c.args.place c.args.bytes.now (omega (arith, c.type-inv.bytes 0)) c.if-name-gt0.true c.if-name-le64.true
+    read c.args.place c.args.bytes.now (omega (arith, c.type_inv.bytes 0)) c.if-name-gt0.true c.if-name-le64.true

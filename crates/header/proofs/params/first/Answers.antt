@@ -14,4 +14,4 @@ lies xs start size e h =
 
 pub returns : goal.returns
 returns c =
-    lies c.args.bytes.now c.in-ok-start.start c.in-ok-start.size c.in-ok-start.ensures (omega arith)
+    lies c.args.bytes.now c.in_ok-start.start c.in_ok-start.size c.in_ok-start.ensures (omega arith)

@@ -8,13 +8,15 @@ full xs h =
     let zeros : List ℕ = replicate (64 - length xs) 0 in
     omega (arith, length-append xs zeros, length-replicate {A = ℕ} (64 - length xs) 0)
 
-pub invariant-of-result : goal.invariant-of-result
-invariant-of-result c =
+pub invariant_of-result : goal.invariant_of-result
+invariant_of-result c =
     let xs = c.args.bytes.now in
-    let few = c.if-len-gt64.false in (
-      ap length c.padded.ensures ∙ full xs few,
-      (few, (ap (drop (length xs)) c.padded.ensures ∙ drop_at xs (replicate (64 - length xs) 0) (length xs) refl, tt)),
-    )
+    let few = c.if-len-gt64.false in
+    record {
+      whole = ap length c.padded.ensures ∙ full xs few;
+      within = few;
+      padded = ap (drop (length xs)) c.padded.ensures ∙ drop_at xs (replicate (64 - length xs) 0) (length xs) refl;
+    }
 
 pub returns : goal.returns
 returns c =

@@ -9,4 +9,4 @@ behind xs ys e =
     (λ i. e i ++ drop (z i) (replicate 64 0)) ∙ ap (λ (zs : List ℕ). xs ++ zs) (drop-replicate (length xs) 64 0)
 
 pub returns : goal.returns
-returns c = behind c.args.bytes.now c.copy-from-slice.new.self c.copy-from-slice.ensures.after
+returns c = behind c.args.bytes.now c.copy_from_slice.new.self c.copy_from_slice.ensures.after
