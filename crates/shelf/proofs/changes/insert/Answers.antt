@@ -16,20 +16,20 @@ returns g c =
     let n = c.args.used in
     let e = c.args.entry in
     let p = c.place-at.result in
-    let ys = c.rotate-right.new.self in
+    let ys = c.rotate_right.new.self in
     let room : n ≤ length xs = omega arith in
     let bound : p ≤ length (take n xs) = rw c.listed.ensures.value at c.place-at.ensures.bound in
     let at : p ≤ n = omega (arith, length-take-le n xs room) in
     let list : (o : IsTotalOrder g.K.Ord.cmp) → take (n + 1) (put_mid p (n + 1 - p) (set xs n e) ys) ≡ shelved g.K.Ord.cmp e (take n xs) =
     λ o.
     let place = rw c.listed.ensures.value at (c.place-at.ensures.value o) in
-    insert_front xs e n p (omega arith) at ys c.rotate-right.ensures.after
+    insert_front xs e n p (omega arith) at ys c.rotate_right.ensures.after
     ∙ ap (λ (i : ℕ). insert (take n xs) i e) place
     ∙ inserted_shelved g.K.Ord.cmp e (take n xs) in
     record {
       answer = (omega arith, refl);
       list = list;
-      rest = insert_rest xs e n p (omega arith) at ys c.rotate-right.ensures.after;
+      rest = insert_rest xs e n p (omega arith) at ys c.rotate_right.ensures.after;
       len = search (rules, overwrites);
       order = λ o up. subst (Ascending g.K.Ord.cmp) (sym (list o)) (ascending_shelved o e (take n xs) up);
       law = λ o up. subst (Arrived g.K.Ord.cmp e (take n xs)) (sym (list o)) (arrived o e (take n xs) up);

@@ -11,7 +11,7 @@ use Rattle.shelf.proofs.changes.remove.Goals as goal
 pub returns-then-at-count : goal.returns-then-at-count
 returns-then-at-count g c =
     let xs = take c.args.used c.args.entries.now in
-    let place = rw c.listed.ensures.value at c.place-of-load-at.ensures.value in
+    let place = rw c.listed.ensures.value at c.place_of_load-at.ensures.value in
     let past : length xs ≤ place_of_load c.args.load xs = omega (arith, place) in
     let none = none_past (carries c.args.load) xs past in
     record {
@@ -26,7 +26,7 @@ returns-then-at-count g c =
 pub returns : goal.returns
 returns g c =
     let xs = take c.args.used c.args.entries.now in
-    let place = rw c.listed.ensures.value at c.place-of-load-at.ensures.value in
+    let place = rw c.listed.ensures.value at c.place_of_load-at.ensures.value in
     let within : place_of_load c.args.load xs < length xs = omega (arith, place) in
     let test = carries c.args.load in
     let some = some_within test xs within in

@@ -2,11 +2,11 @@ use Rattle.std.proofs.Common.{length, take, drop, sym, refl, ap, ◌∙◌, arit
 use Rattle.shelf.proofs.Counted.{nil_from_nth, cons_from_nth}
 use Rattle.shelf.proofs.changes.take_first.Goals as goal
 
-pub returns-in-err-first : goal.returns-in-err-first
-returns-in-err-first g c =
-    let is = rw c.listed.ensures.value at c.entry-at.ensures in
-    let empty = nil_from_nth (take c.args.used c.args.entries.now) (sym is ∙ c.in-err-first.was) in
-    rw c.from-residual.ensures record {
+pub returns-in_err-first : goal.returns-in_err-first
+returns-in_err-first g c =
+    let is = rw c.listed.ensures.value at c.entry_at.ensures in
+    let empty = nil_from_nth (take c.args.used c.args.entries.now) (sym is ∙ c.in_err-first.was) in
+    rw c.from_residual.ensures record {
       answer = (empty, refl {a = c.args.entries.now});
       list = rw empty;
       rest = refl {a = drop c.args.used c.args.entries.now};
@@ -16,6 +16,6 @@ returns-in-err-first g c =
 
 pub lift-requires : goal.lift-requires
 lift-requires g c =
-    let is = rw c.listed.ensures.value at c.entry-at.ensures in
-    let full = cons_from_nth (take c.args.used c.args.entries.now) c.in-ok-first.first (sym is ∙ c.in-ok-first.was) in
+    let is = rw c.listed.ensures.value at c.entry_at.ensures in
+    let full = cons_from_nth (take c.args.used c.args.entries.now) c.in_ok-first.first (sym is ∙ c.in_ok-first.was) in
     omega (arith, ap length full)

@@ -9,5 +9,5 @@ pub returns : goal.returns
 returns g c =
     let xs = take c.args.used c.args.entries.now in
     let load = c.args.load in
-    let value : c.entry-at.result ≡ found load xs = rw (c.entry-at.ensures, c.place_of_load.ensures.value, c.listed-list.ensures.value) (nth_place (carries load) xs) in
+    let value : c.entry_at.result ≡ found load xs = rw (c.entry_at.ensures, c.place_of_load.ensures.value, c.listed-list.ensures.value) (nth_place (carries load) xs) in
     record { value = value; law = subst (First (carries load) xs) (sym value) (first_is (carries load) xs) }

@@ -10,6 +10,6 @@ pub returns : goal.returns
 returns g c =
     let xs = take c.args.used c.args.entries.now in
     let k = c.args.key.now in
-    let value : (o : IsTotalOrder g.K.Ord.cmp) → c.entry-at.result ≡ first_above g.K.Ord.cmp k xs =
-    λ o. rw (c.entry-at.ensures, c.place.ensures.value o, c.listed-list.ensures.value) (nth_place (above g.K.Ord.cmp k) xs) in
+    let value : (o : IsTotalOrder g.K.Ord.cmp) → c.entry_at.result ≡ first_above g.K.Ord.cmp k xs =
+    λ o. rw (c.entry_at.ensures, c.place.ensures.value o, c.listed-list.ensures.value) (nth_place (above g.K.Ord.cmp k) xs) in
     record { value = value; law = λ o up. subst (Next g.K.Ord.cmp k xs) (sym (value o)) (next o k xs up) }
