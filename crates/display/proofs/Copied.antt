@@ -1,8 +1,8 @@
 -- What a panel means after a body was copied to the front of its frame memory.
-use Rattle.std.proofs.Common.{◌≡◌, ℕ, ◌+◌, ◌≤◌, min, List, ◌++◌, length, take, drop, Some, None, Option, sym, refl, ap, ◌∙◌, arith}
+use Rattle.std.proofs.Common.{◌≡◌, ℕ, ◌+◌, ◌≤◌, min, List, length, take, Some, Option, ap, ◌∙◌, arith}
 use Rattle.packed.specs.Parts.{pasted}
 use Rattle.packed.proofs.Overwritten.{length_pasted, read_pasted}
-use Rattle.display.specs.Meaning.{Meaning, shown}
+use Rattle.display.specs.Meaning.{shown}
 use Rattle.display.specs.Frame.{panel}
 use Rattle.display.specs.declared.cards.CardNumbers.{CardNumbers}
 

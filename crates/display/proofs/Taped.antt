@@ -1,12 +1,12 @@
 -- An entry written on a tape is read back from its bytes.
-use Rattle.std.proofs.Common.{◌≡◌, ℕ, ◌+◌, ◌-◌, ◌*◌, ◌/◌, ◌%◌, ◌^◌, ◌<◌, ◌≤◌, min, List, ◌++◌, length, get_or, take, drop, Some, None, Option, sym, refl, ap, ◌∙◌, mod-eq_of_lt, div-one, arith}
+use Rattle.std.proofs.Common.{◌≡◌, ℕ, ◌+◌, ◌-◌, ◌*◌, ◌%◌, ◌^◌, ◌<◌, ◌≤◌, min, List, ◌++◌, length, get_or, take, drop, Some, None, Option, sym, refl, ap, ◌∙◌, mod-eq_of_lt, div-one, arith}
 use lib.Pow.{high, low}
 use Rattle.packed.specs.Bits.{whole, field, bytes_of}
 use Rattle.packed.specs.Parts.{pasted}
-use Rattle.packed.proofs.Written.{length_bytes_of, whole_bytes}
+use Rattle.packed.proofs.Written.{whole_bytes}
 use Rattle.packed.proofs.Overwritten.{length_pasted, from_pasted, pasted_both}
 use Rattle.std.proofs.lemmas.List.{length-append, length-drop, length-take-le, take_at, drop_at, drop-drop, append_assoc, get_or-take, get_or-drop}
-use Rattle.display.specs.Meaning.{Meaning, Card, shown, numbers, Byte}
+use Rattle.display.specs.Meaning.{shown, numbers, Byte}
 use Rattle.display.specs.declared.cards.CardNumbers.{CardNumbers}
 use Rattle.display.specs.Tape.{accession_at, since_at, length_at, head_at, card_at, end_of, entry_bytes, film, film_card}
 

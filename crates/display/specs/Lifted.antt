@@ -1,9 +1,12 @@
--- The layers keep what every display owes.
-use Rattle.std.specs.Prelude.{◌≡◌, ℕ, ◌+◌, ◌-◌, ◌*◌, ◌/◌, ◌%◌, ◌<◌, ◌≤◌, Bool, true, false, cond, nat_le}
+-- Panel, film and the layers keep what every display owes.
+use Rattle.std.specs.Prelude.{ℕ, ◌+◌, ◌-◌, ◌/◌, ◌≤◌, List, Option, nat_le}
 use Rattle.std.proofs.Common.{div-add-mod', mod-lt, mul-le-mul_right, arith}
 use Rattle.std.proofs.lemmas.Nat.{le-div}
 use Rattle.std.proofs.lemmas.Bool.{leb-true, cond_both}
 use Rattle.display.specs.Meaning.{Meaning, Keeps}
+use Rattle.display.specs.declared.cards.CardNumbers.{CardNumbers}
+use Rattle.display.specs.Frame.{panel}
+use Rattle.display.specs.Tape.{film}
 use Rattle.display.specs.Layering.{up, edged, delayed, edge_over, lag_over}
 
 pub up_low : (p t : ℕ) → 1 ≤ p → t ≤ up p t
@@ -45,3 +48,21 @@ lag_over_keeps m d k =
     cond_both (nat_le (m.lag + d) 10000) d 0 (λ q. Keeps (delayed q m))
     (λ e. lag_keeps m d (leb-true _ _ e) k)
     (λ e. lag_keeps m 0 (omega (arith, k.lag_small)) k)
+
+pub panel_keeps : (xs : List ℕ) (c : Option CardNumbers) → Keeps (panel xs c)
+panel_keeps xs c = record {
+  frame_small = omega arith;
+  lag_small = omega arith;
+  not_early = λ t h. omega arith;
+  within_lag = λ t h. omega arith;
+  in_order = λ t u le h. le;
+}
+
+pub film_keeps : (tape : List ℕ) (last : Option ℕ) → Keeps (film tape last)
+film_keeps tape last = record {
+  frame_small = omega arith;
+  lag_small = omega arith;
+  not_early = λ t h. omega arith;
+  within_lag = λ t h. omega arith;
+  in_order = λ t u le h. le;
+}

@@ -4,7 +4,7 @@ ghost use Rattle.display.specs.Meaning.{blank, Shows};
 ghost use Rattle.display.specs.Tape.{film, end_of, head_at, place_for, entry_bytes, Recorded};
 ghost use Rattle.packed.specs.Bits.{whole};
 ghost use Rattle.packed.specs.Parts.{pasted};
-ghost use Rattle.std.proofs.Common.{rules, arith};
+ghost use Rattle.display.specs.Lifted.{film_keeps};
 
 use crate::cards::CardNumbers;
 use crate::copying::copy_in;
@@ -110,7 +110,7 @@ fn write_entry(tape: &mut Vec<u8>, at: usize, accession: u32, since: u64, body: 
 impl Display for Film {
     ghost meaning = { λ f. film f.tape.items f.last };
 
-    ghost keeps = { first_of (Prim.search rules, Prim.grind (arith, Self.row.coded.inj)) };
+    ghost keeps = { λ f. film_keeps f.tape.items f.last };
 
     fn show(&mut self, accession: u32, moment: u64, body: &[u8]) -> Result<(), Fault>
         ensures shows { Shows (film self.old.tape.items self.old.last) accession moment body.now result (film self.new.tape.items self.new.last) }

@@ -2,7 +2,7 @@
 ghost use Rattle.std.specs.Prelude.{◌≡◌, ℕ, ◌≤◌, min, None, vec_len};
 ghost use Rattle.display.specs.Frame.{panel, used};
 ghost use Rattle.display.specs.Meaning.{blank};
-ghost use Rattle.std.proofs.Common.{rules, arith};
+ghost use Rattle.display.specs.Lifted.{panel_keeps};
 
 use crate::cards::CardNumbers;
 use crate::copying::copy_in;
@@ -30,7 +30,7 @@ impl Panel {
 impl Display for Panel {
     ghost meaning = { λ p. panel p.memory.items p.held };
 
-    ghost keeps = { first_of (Prim.search rules, Prim.grind (arith, Self.row.coded.inj)) };
+    ghost keeps = { λ p. panel_keeps p.memory.items p.held };
 
     fn show(&mut self, accession: u32, moment: u64, body: &[u8]) -> Result<(), Fault> {
         let size = body.len();

@@ -1,4 +1,4 @@
-use Rattle.std.proofs.Common.{◌≡◌, ℕ, ◌+◌, ◌*◌, ◌/◌, ◌%◌, ◌^◌, List, [], ◌∷◌, length, sym, refl, ap, ◌∙◌, arith}
+use Rattle.std.proofs.Common.{◌≡◌, ℕ, ◌+◌, ◌/◌, ◌%◌, List, [], ◌∷◌, sym, ap, ◌∙◌, arith}
 use Rattle.packed.specs.Bits.{bytes_of}
 use Rattle.packed.specs.Parts.{pasted}
 use Rattle.packed.proofs.Written.{last_byte}
@@ -18,12 +18,12 @@ returns c =
     let tape = c.args.tape.now.items in
     let at = c.args.at in
     let b = c.args.body.now in
-    let f = c.to-be-bytes-first.result in
-    let g = c.to-be-bytes-second.result in
+    let f = c.to_be_bytes-first.result in
+    let g = c.to_be_bytes-second.result in
     record {
       items =
-          c.copy-in-3.ensures.items
-          ∙ ap (λ (z : List ℕ). pasted z (at + 12) b) (c.copy-in-2.ensures.items ∙ ap (λ (z : List ℕ). pasted z (at + 4) g) c.copy-in.ensures.items)
-          ∙ written_entry tape at c.args.accession c.args.since b f g (omega (arith, c.args.tape.now.ok.0)) (c.to-be-bytes-first.ensures ∙ four _) (c.to-be-bytes-second.ensures ∙ eight _);
-      len = c.copy-in-3.ensures.len ∙ c.copy-in-2.ensures.len ∙ c.copy-in.ensures.len;
+          c.copy_in-3.ensures.items
+          ∙ ap (λ (z : List ℕ). pasted z (at + 12) b) (c.copy_in-2.ensures.items ∙ ap (λ (z : List ℕ). pasted z (at + 4) g) c.copy_in.ensures.items)
+          ∙ written_entry tape at c.args.accession c.args.since b f g (omega (arith, c.args.tape.now.ok.0)) (c.to_be_bytes-first.ensures ∙ four _) (c.to_be_bytes-second.ensures ∙ eight _);
+      len = c.copy_in-3.ensures.len ∙ c.copy_in-2.ensures.len ∙ c.copy_in.ensures.len;
     }

@@ -6,4 +6,4 @@ use Rattle.display.proofs.films.FilmDisplay.card.Goals as goal
 pub returns-in-Some : goal.returns-in-Some
 returns-in-Some c =
     let film = c.args.self.now in
-    numbers_are film.tape.items film.last c.in-Some.at c.in-Some.is (omega (arith, film.within, film.tape.ok.0)) c.numbers-at.result (c.numbers-at.ensures ∙ ap (λ (xs : List ℕ). head_at xs c.in-Some.at) c.as-slice.ensures.value)
+    numbers_are film.tape.items film.last c.in-Some.at c.in-Some.is (omega (arith, film.within, film.tape.ok.0)) c.numbers_at.result (c.numbers_at.ensures ∙ ap (λ (xs : List ℕ). head_at xs c.in-Some.at) c.as_slice.ensures.value)
