@@ -1,5 +1,5 @@
 -- What a slot holds: nothing, an object whose segments arrive, or a slide.
-use Rattle.std.specs.Prelude.{ℕ, Bool, true, false, cond, ◌&&◌, ◌||◌, List, Some, None, Option, ◌==◌, nat_le}
+use Rattle.std.specs.Prelude.{ℕ, Bool, true, false, cond, ◌&&◌, Some, None, Option, ◌==◌, nat_le}
 use Rattle.header.specs.Headers.{HeaderRecord}
 use Rattle.header.specs.Names.{NameRecord, same_name}
 use Rattle.header.specs.declared.kinds.Category.{Category}

@@ -6,4 +6,4 @@ use Rattle.slots.proofs.finds.free_from.Given as goal
 -- what is left gives the answer
 abbrev pub invariant-loop-tried : goal.invariant-loop-tried
 invariant-loop-tried l =
-    (l.at < 12) × (free_from (map seen l.records) (l.n - l.-tried) l.at ≡ free_from (map seen l.records) l.n l.k)
+    (l.at < 12) × (free_from (map seen l.records) (l.n - l._tried) l.at ≡ free_from (map seen l.records) l.n l.k)
