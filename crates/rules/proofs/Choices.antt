@@ -1,12 +1,12 @@
 -- Which slot a header gets.
-use Rattle.std.proofs.Common.{◌≡◌, ℕ, zero, suc, ◌+◌, ◌<◌, ◌≤◌, Bool, true, false, cond, not, ◌&&◌, eqb, List, [], ◌∷◌, length, get_or, Some, None, filter, Option, sym, refl, ap, ◌∙◌, arith}
+use Rattle.std.proofs.Common.{◌≡◌, ℕ, zero, suc, ◌+◌, ◌<◌, Bool, true, false, cond, not, ◌&&◌, eqb, List, [], ◌∷◌, length, get_or, Some, None, filter, Option, sym, refl, ap, ◌∙◌, arith}
 use Rattle.rules.specs.Headers.{is_held, idle, lower, oldest_from, or_else, slot_for}
 use Rattle.rules.specs.Soundness.{Sound}
 use Rattle.rules.specs.Worlds.{State, slot_at, undone}
 use Rattle.shelf.specs.declared.entries.Entry.{Entry}
 use Rattle.slots.specs.Searches.{first_slot, first_free, free_from, next}
 use Rattle.slots.specs.Slides.{Slot, Slide, free, arriving, held, comes, is_free, number_in}
-use Rattle.std.proofs.lemmas.Bool.{cond_both, both_ways, and_parts, eqb-true, eqb-false, not-true, ne_eqb}
+use Rattle.std.proofs.lemmas.Bool.{cond_both, both_ways, and_parts, eqb-false, ne_eqb}
 use Rattle.std.specs.List.{AllByRecursion}
 use Rattle.rules.proofs.Finds.{found_at}
 

@@ -1,13 +1,13 @@
 -- The sample, computed.
-use Rattle.std.proofs.Common.{◌≡◌, ℕ, ◌+◌, ◌-◌, ◌<◌, ◌≤◌, List, [], ◌∷◌, length, replicate, filter, sym, refl, ap, ◌∙◌, arith}
+use Rattle.std.proofs.Common.{◌≡◌, ℕ, ◌-◌, List, [], ◌∷◌, length, replicate, filter, refl, ap, ◌∙◌, arith}
 use Rattle.display.specs.Meaning.{blank}
-use Rattle.rules.specs.Calls.{Call, time, Reply, counted}
+use Rattle.rules.specs.Calls.{Reply, counted}
 use Rattle.header.specs.Headers.{header_of}
 use Rattle.rules.specs.Assembly.{segment_step}
 use Rattle.rules.specs.Clocks.{walk, walked, setting_step}
 use Rattle.rules.specs.Headers.{header_step}
 use Rattle.rules.specs.Passes.{passed_to, seen}
-use Rattle.rules.specs.Runs.{opened, after, replies, step}
+use Rattle.rules.specs.Runs.{after, step}
 use Rattle.rules.specs.Samples.{SampleShows, sample_opening, before_reading, sample_reading}
 use Rattle.rules.specs.Soundness.{Sound}
 use Rattle.rules.specs.Worlds.{World}

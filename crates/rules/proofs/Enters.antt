@@ -1,9 +1,8 @@
 -- The ledger follows the receiver through every call.
-use Rattle.std.proofs.Common.{◌≡◌, ℕ, zero, suc, ◌+◌, ◌-◌, ◌*◌, ◌^◌, ◌<◌, ◌≤◌, min, Bool, true, false, cond, not, ◌&&◌, ◌||◌, eqb, ltb, leb, ◌⊎◌, List, [], ◌∷◌, ◌++◌, map, length, get_or, take, drop, set, replicate, Some, None, Ok, Err, filter, Option, Result, sym, refl, ap, ◌∙◌, subst, ap₂, subst₂, inl, inr, mul-le-mul_right, suc-mul, arith}
+use Rattle.std.proofs.Common.{◌≡◌, ℕ, zero, suc, ◌+◌, ◌-◌, ◌*◌, ◌^◌, ◌<◌, ◌≤◌, Bool, true, false, cond, not, ◌||◌, eqb, ltb, leb, List, [], ◌∷◌, length, get_or, take, drop, set, replicate, Some, None, Ok, Err, filter, Option, Result, sym, refl, ap, ◌∙◌, subst, subst₂, inl, inr, arith}
 use mathlib.Core.Path.{subst₃, fun_ext}
 use lib.Bits.{bit_or}
 use Rattle.display.specs.Meaning.{Meaning, Keeps}
-use Rattle.header.proofs.Equal.{same_decides}
 use Rattle.header.proofs.Facts.{header_sound}
 use Rattle.header.proofs.Laws.{Passed, cored, passed_to}
 use Rattle.header.proofs.Moments.{read_in_time}
@@ -23,39 +22,37 @@ use Rattle.packed.specs.Bits.{whole}
 use Rattle.packed.specs.Parts.{pasted}
 use Rattle.refusal.specs.declared.Fault.{Fault}
 use Rattle.refusal.specs.declared.causes.Cause.TheVariants.{HeaderCut}
-use Rattle.rules.specs.Assembly.{put, received, filed, told_filing, landed, on_landing, segment_of, segment_step}
-use Rattle.rules.specs.Calls.{Call, header, segment, time, find_name, next_place, body_of, card, Reply, answered, counted, refused}
-use Rattle.rules.specs.Clocks.{prepared, expired, tick, walk, walked, set_to, read_to, on_setting, on_reading, setting_step, reading_step, time_step}
-use Rattle.rules.specs.Headers.{slot_for, begun, new_image, image_step, told_update, recategorised, update_step, by_kind, on_header, header_step, idle}
-use Rattle.rules.specs.Ledgers.{Ledger, Known, body_in, leave, happen, instant, pass, start, arming, noted, kept, with_piece, filed_in, said, on_said, known_from, on_answer, on_answered, on_counted, moved_to, entered, blank, ledger}
+use Rattle.rules.specs.Assembly.{put, received, filed, told_filing, on_landing, segment_of, segment_step}
+use Rattle.rules.specs.Calls.{Call, header, segment, time, find_name, next_place, body_of, card, Reply, answered, counted}
+use Rattle.rules.specs.Clocks.{prepared, expired, tick, walk, walked, set_to, on_setting, on_reading, setting_step, reading_step, time_step}
+use Rattle.rules.specs.Headers.{slot_for, begun, image_step, told_update, recategorised, update_step, by_kind, on_header, header_step, idle}
+use Rattle.rules.specs.Ledgers.{Ledger, Known, body_in, leave, happen, instant, pass, start, arming, noted, kept, with_piece, filed_in, said, on_said, known_from, on_answer, on_counted, moved_to, entered, blank, ledger}
 use Rattle.rules.specs.Runs.{opened, after, replies, step}
 use Rattle.rules.specs.Soundness.{Sound, SlotSound}
 use Rattle.rules.specs.Triggers.{Verdict, nothing, effect, late, wait, verdict}
-use Rattle.rules.specs.Worlds.{State, World, slot_at, holding, with_state, fits_memory, vacate, undone, fire, armed, categorised}
+use Rattle.rules.specs.Worlds.{State, World, slot_at, with_state, fits_memory, vacate, fire, armed, categorised}
 use Rattle.slots.specs.Pieces.{part}
 use Rattle.rules.specs.declared.answers.Answer.{Answer}
-use Rattle.rules.specs.declared.answers.Answer.TheVariants.{Taken, Repeat, Filed, Shown, Late, Changed, Refused}
 use Rattle.shelf.specs.declared.entries.Entry.{Entry}
 use Rattle.slots.proofs.Numbers.{has_none}
 use Rattle.slots.specs.Searches.{first_slot}
-use Rattle.slots.specs.Segments.{has, fits, offset, piece_with, last_with, landing, grown, complete, complete_with}
+use Rattle.slots.specs.Segments.{has, fits, offset, piece_with, last_with, landing, grown, complete}
 use Rattle.slots.specs.Slides as slides
 use Rattle.slots.specs.Slides.{Slot, free, arriving, held, Object, Slide, arrival, slide_of, with_progress, image_of, comes, named, versioned, comes_again, ends, passed, number_in}
 use Rattle.slots.specs.declared.progress.Landing.{Landing}
-use Rattle.slots.specs.declared.progress.Landing.TheVariants.{Misfit, Again, At}
+use Rattle.slots.specs.declared.progress.Landing.TheVariants.{At}
 use Rattle.slots.specs.declared.progress.Segment.{Segment}
-use Rattle.std.proofs.lemmas.List.{drop-take, drop-drop, length-set, length-replicate, get_or-set_same, get_or-set_other}
-use Rattle.std.proofs.lemmas.Bool.{cond_both, cases_eq, cases_lt, eqb-true, eqb-false, leb-true, ltb-false, le-leb, ne_eqb, eq-eqb, and_parts, or_parts, both_ways, not-true, lt-ltb}
+use Rattle.std.proofs.lemmas.List.{drop-take, length-set, get_or-set_same, get_or-set_other}
+use Rattle.std.proofs.lemmas.Bool.{cond_both, cases_lt, eqb-true, eqb-false, leb-true, ltb-false, le-leb, ne_eqb, eq-eqb, and_parts, or_parts, both_ways, not-true}
 use Rattle.std.specs.Result.{result_ok}
-use Rattle.std.specs.List.{AllByRecursion}
 use Rattle.rules.proofs.Finds.{found_at, on_some_both, on_arriving_both}
-use Rattle.rules.proofs.Follows.{newest, Stands, Holds, Comes, Knows, Follows, timed, holds, vacated, fired, later_only, categories_changed, arms}
+use Rattle.rules.proofs.Follows.{newest, Stands, Comes, Knows, Follows, timed, vacated, fired, later_only, categories_changed, arms}
 use Rattle.rules.proofs.Pairs.{Both, none, more}
 use Rattle.rules.proofs.Passes.{getD_vacate}
-use Rattle.slots.proofs.Pieces.{Piece, Pieces, Fits, fit, Tight, tight_inside, next_piece, added, completed}
+use Rattle.slots.proofs.Pieces.{Piece, Pieces, Fits, fit, tight_inside, next_piece, added, completed}
 use Rattle.rules.proofs.Readings.{walk_clock}
 use Rattle.rules.proofs.Choices.{slot_for_some, idle_undone}
-use Rattle.rules.proofs.Kept.{sound_open, sound_step, sound_recategorised, held_named}
+use Rattle.rules.proofs.Kept.{sound_step, sound_recategorised, held_named}
 use Rattle.rules.proofs.Sounds.{at_set, sound_vacate, sound_filtered, sound_walk, sound_received, sound_filed, sound_categorised}
 
 -- parts of memory beside a write

@@ -1,12 +1,12 @@
 -- What a filter keeps of a shelf's laws, and where a slot is found again.
-use Rattle.std.proofs.Common.{◌≡◌, ℕ, zero, suc, ◌<◌, ◌≤◌, Bool, true, false, cond, not, ◌&&◌, ◌||◌, eqb, ◌⊎◌, List, [], ◌∷◌, map, length, get_or, set, Some, None, filter, Option, Ordering, sym, refl, ap, ◌∙◌, ap₂, inl, inr, arith}
+use Rattle.std.proofs.Common.{◌≡◌, ℕ, zero, suc, Bool, true, false, cond, ◌&&◌, ◌||◌, eqb, ◌⊎◌, List, [], ◌∷◌, map, get_or, set, None, filter, Ordering, sym, refl, ap, ◌∙◌, ap₂, inl, inr}
 use Rattle.rules.specs.Soundness.{same_place, PlacesApart}
 use Rattle.rules.specs.Worlds.{any}
 use Rattle.shelf.proofs.Found.{none_passes, none_found}
 use Rattle.shelf.specs.Laws.{Apart}
 use Rattle.shelf.specs.Places.{carries, found, shelved, above}
 use Rattle.shelf.specs.declared.entries.Entry.{Entry}
-use Rattle.slots.specs.Slides.{Slot, free, arriving, held, Slide, numbered}
+use Rattle.slots.specs.Slides.{Slot, free, numbered}
 use Rattle.std.proofs.lemmas.Bool.{cond_both, both_ways, cases_Bool, or_parts, or_right, or_left, eqb-true, eq-eqb, ne_eqb, eqb-false}
 use Rattle.std.specs.List.{AllByRecursion}
 

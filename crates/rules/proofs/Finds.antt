@@ -1,5 +1,5 @@
 -- Where a search among the slots came to.
-use Rattle.std.proofs.Common.{◌≡◌, ℕ, zero, suc, ◌+◌, ◌<◌, ◌≤◌, Bool, true, false, cond, not, ◌&&◌, List, [], ◌∷◌, length, get_or, Some, None, Option, sym, refl, ap, ◌∙◌, arith}
+use Rattle.std.proofs.Common.{◌≡◌, ℕ, suc, ◌+◌, ◌<◌, Bool, true, false, cond, List, [], ◌∷◌, length, get_or, Some, None, Option, refl, arith}
 use Rattle.rules.specs.Assembly.{on_arriving}
 use Rattle.rules.specs.Headers.{on_some}
 use Rattle.slots.specs.Searches.{first_from, first_slot}

@@ -1,30 +1,25 @@
 -- The ledger follows the receiver: what it means, and the primitives.
-use Rattle.std.proofs.Common.{◌≡◌, ℕ, zero, suc, ◌+◌, ◌-◌, ◌*◌, ◌<◌, ◌≤◌, Bool, true, false, cond, not, ◌&&◌, ◌||◌, eqb, ltb, leb, ◌⊎◌, List, [], ◌∷◌, ◌++◌, map, length, get_or, take, drop, set, Some, None, filter, Option, sym, refl, ap, ◌∙◌, subst, ap₂, inl, inr, arith}
-use mathlib.Core.Path.{fun_ext}
+use Rattle.std.proofs.Common.{◌≡◌, ℕ, zero, suc, ◌+◌, ◌*◌, ◌<◌, ◌≤◌, Bool, true, false, cond, not, eqb, ltb, leb, ◌⊎◌, List, [], ◌∷◌, ◌++◌, map, length, get_or, Some, None, filter, Option, sym, refl, ap, ◌∙◌, subst, ap₂, inl, inr, arith}
 use Rattle.display.proofs.Shown.{accepts_true}
-use Rattle.display.specs.Meaning.{Meaning, Card, Keeps, accepts, showed}
+use Rattle.display.specs.Meaning.{Meaning, Card, Keeps, accepts}
 use Rattle.header.specs.Sound.{InTime}
 use Rattle.header.specs.declared.kinds.Category.{Category}
 use Rattle.moment.specs.declared.times.Time.{Time}
 use Rattle.moment.specs.declared.times.Time.TheVariants.{Now, At}
-use Rattle.rules.specs.Clocks.{prepared, expired}
-use Rattle.rules.specs.Headers.{is_held}
 use Rattle.rules.specs.Laws.{card_of, latest}
-use Rattle.rules.specs.Ledgers.{Ledger, Known, body_in, leave, effect_of, happen, start, cleared, arming}
+use Rattle.rules.specs.Ledgers.{Ledger, Known, body_in, leave, effect_of, happen, cleared, arming}
 use Rattle.rules.specs.Soundness.{Sound, SlotSound}
 use Rattle.rules.specs.Triggers.{Verdict, nothing, effect, late, wait, verdict, Effect}
 use Rattle.rules.specs.Worlds.{State, World, slot_at, body_at, holding, with_state, vacate, undone, show_all, effect_at, due, fire, armed, categorised}
 use Rattle.slots.specs.Pieces.{part}
-use Rattle.shelf.specs.Kinds.{by_moment}
-use Rattle.shelf.specs.Places.{shelved}
 use Rattle.shelf.specs.declared.entries.Entry.{Entry}
-use Rattle.slots.specs.Slides.{Slot, free, arriving, held, Object, Slide, ends, passed, number_in, size_in}
-use Rattle.std.proofs.lemmas.List.{length-take, length-drop, map-append}
-use Rattle.std.proofs.lemmas.Bool.{cond_both, cond-true, cond-false, cases_eq, ne_eqb, eq-eqb, not-true, ltb-false}
+use Rattle.slots.specs.Slides.{Slot, free, arriving, held, Object, Slide, number_in, size_in}
+use Rattle.std.proofs.lemmas.List.{length-take, length-drop}
+use Rattle.std.proofs.lemmas.Bool.{cond-false, cases_eq, ne_eqb, eq-eqb, not-true}
 use Rattle.std.specs.List.{AllByRecursion}
 use Rattle.rules.proofs.Pairs.{Both, none, more, both_kept, both_map, both_all, both_shelved}
 use Rattle.rules.proofs.Passes.{getD_vacate}
-use Rattle.slots.proofs.Pieces.{Piece, Pieces}
+use Rattle.slots.proofs.Pieces.{Pieces}
 
 -- the last moment that a time field can name
 abbrev pub newest : ℕ

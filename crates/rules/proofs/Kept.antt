@@ -1,5 +1,5 @@
 -- Every call keeps a receiver's state sound, and numbers its slides in order.
-use Rattle.std.proofs.Common.{◌≡◌, ℕ, zero, suc, ◌-◌, ◌<◌, ◌≤◌, min, Bool, true, false, cond, ◌||◌, eqb, ltb, leb, List, [], ◌∷◌, length, get_or, replicate, Some, None, Ok, Err, Option, Result, sym, refl, ap, ◌∙◌, subst, arith}
+use Rattle.std.proofs.Common.{◌≡◌, ℕ, zero, suc, ◌-◌, ◌<◌, ◌≤◌, Bool, true, false, cond, ◌||◌, eqb, ltb, leb, List, [], ◌∷◌, length, get_or, replicate, Some, None, Ok, Err, Option, Result, sym, refl, ap, ◌∙◌, subst, arith}
 use Rattle.display.specs.Meaning.{Meaning}
 use Rattle.header.proofs.Facts.{header_sound}
 use Rattle.header.specs.Headers.{HeaderRecord, header_of}
@@ -12,23 +12,22 @@ use Rattle.moment.specs.Field.{time_of}
 use Rattle.moment.specs.declared.times.Time.{Time}
 use Rattle.moment.specs.declared.times.Time.TheVariants as times
 use Rattle.refusal.specs.declared.Fault.{Fault}
-use Rattle.rules.specs.Assembly.{put, received, filed, told_filing, landed, on_landing, segment_of, segment_step}
-use Rattle.rules.specs.Calls.{Call, header, segment, time, find_name, next_place, body_of, card, Reply, answered, counted, refused}
-use Rattle.rules.specs.Clocks.{prepared, tick, walk, on_setting, on_reading, setting_step, reading_step, time_step}
+use Rattle.rules.specs.Assembly.{put, received, on_landing, segment_of, segment_step}
+use Rattle.rules.specs.Calls.{Call, header, segment, time, find_name, next_place, body_of, card, Reply, answered, refused}
+use Rattle.rules.specs.Clocks.{tick, walk, on_setting, on_reading, setting_step, reading_step, time_step}
 use Rattle.rules.specs.Headers.{slot_for, image_step, recategorised, told_update, update_step, by_kind, on_header, header_step}
 use Rattle.rules.specs.Laws.{CountOn, given_by, given_in, NumbersRise, on_taken}
 use Rattle.rules.specs.Runs.{opened, after, replies, step}
 use Rattle.rules.specs.Soundness.{Sound}
 use Rattle.rules.specs.Triggers.{Verdict, nothing, effect, late, wait, verdict}
-use Rattle.rules.specs.Worlds.{State, World, slot_at, fits_memory, fire, with_state, vacate, armed, categorised}
+use Rattle.rules.specs.Worlds.{State, World, slot_at, fits_memory, with_state, vacate, armed, categorised}
 use Rattle.rules.specs.declared.answers.Answer.{Answer}
-use Rattle.rules.specs.declared.answers.Answer.TheVariants.{Taken, Repeat, Filed, Shown, Late, Changed, Refused}
+use Rattle.rules.specs.declared.answers.Answer.TheVariants.{Refused}
 use Rattle.slots.specs.Searches.{first_slot}
 use Rattle.slots.specs.Segments.{has, fits, offset, landing, grown, complete}
 use Rattle.slots.specs.Slides as slides
 use Rattle.slots.specs.Slides.{Slot, free, arriving, held, Object, Slide, slide_of, with_progress, image_of, comes, named, versioned, comes_again, passed, number_in}
 use Rattle.slots.specs.declared.progress.Landing.{Landing}
-use Rattle.slots.specs.declared.progress.Landing.TheVariants.{Misfit, Again, At}
 use Rattle.slots.specs.declared.progress.Segment.{Segment}
 use Rattle.std.proofs.lemmas.List.{get_or-set_same}
 use Rattle.std.proofs.lemmas.Bool.{cond_both, both_ways, eqb-false, ltb-false}

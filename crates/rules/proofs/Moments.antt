@@ -1,5 +1,5 @@
 -- The moments of a ledger's history never fall, whatever was answered.
-use Rattle.std.proofs.Common.{◌≡◌, ℕ, zero, suc, ◌-◌, ◌≤◌, Bool, cond, eqb, List, [], ◌∷◌, ◌++◌, map, Ok, Err, filter, Result, refl, arith}
+use Rattle.std.proofs.Common.{◌≡◌, ℕ, zero, suc, ◌-◌, ◌≤◌, eqb, List, [], ◌∷◌, ◌++◌, map, Ok, Err, filter, Result, refl, arith}
 use Rattle.header.specs.Headers.{HeaderRecord}
 use Rattle.moment.specs.Field.{time_of}
 use Rattle.moment.specs.declared.times.Time.{Time}
@@ -7,7 +7,7 @@ use Rattle.moment.specs.declared.times.Time.TheVariants.{Now, At}
 use Rattle.refusal.specs.declared.Fault.{Fault}
 use Rattle.rules.specs.Calls.{Call, header, segment, time, find_name, next_place, body_of, card, Reply, answered, counted, refused, found, placed, bytes, shows}
 use Rattle.rules.specs.Laws.{NeverFalls}
-use Rattle.rules.specs.Ledgers.{Ledger, ledger, entered, pass, instant, happen, leave, start, arming, noted, effect_of, said, on_said, on_answer, on_answered, on_counted, moved_to, kept, filed_in, known_from}
+use Rattle.rules.specs.Ledgers.{Ledger, ledger, entered, pass, instant, happen, leave, start, arming, effect_of, said, on_said, on_answer, on_answered, on_counted, moved_to, kept, filed_in}
 use Rattle.rules.specs.Triggers.{Verdict, nothing, effect, late, wait, verdict, Effect}
 use Rattle.rules.specs.declared.answers.Answer.{Answer}
 use Rattle.rules.specs.declared.answers.Answer.TheVariants.{Taken, Repeat, Filed, Shown, Late, Changed, Refused}

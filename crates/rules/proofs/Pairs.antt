@@ -1,5 +1,5 @@
 -- Two lists that go side by side.
-use Rattle.std.proofs.Common.{◌≡◌, ℕ, Bool, true, false, cond, List, [], ◌∷◌, map, filter, refl, ap, ap₂}
+use Rattle.std.proofs.Common.{◌≡◌, ℕ, Bool, true, false, cond, List, [], ◌∷◌, map, filter, refl, ap₂}
 use Rattle.shelf.specs.Kinds.{by_moment}
 use Rattle.shelf.specs.Places.{above, shelved}
 use Rattle.shelf.specs.declared.entries.Entry.{Entry}

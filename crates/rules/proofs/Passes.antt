@@ -5,15 +5,15 @@ use Rattle.moment.specs.declared.times.Time.{Time}
 use Rattle.moment.specs.declared.times.Time.TheVariants.{Now, At}
 use Rattle.rules.specs.Clocks.{tick, ticked, walk, walked, expired}
 use Rattle.rules.specs.Laws.{NeverFalls}
-use Rattle.rules.specs.Passes.{gone, seen, shot, undue, at_clock, passed_to}
+use Rattle.rules.specs.Passes.{gone, seen, shot, passed_to}
 use Rattle.rules.specs.Triggers.{Effect}
-use Rattle.rules.specs.Worlds.{State, World, slot_at, any, vacate, effect_at, show_all, due}
+use Rattle.rules.specs.Worlds.{State, World, slot_at, any, show_all, due}
 use Rattle.slots.specs.Pieces.{part}
 use Rattle.shelf.specs.declared.entries.Entry.{Entry}
 use Rattle.slots.specs.Slides.{Slot, free, arriving, held, ends, passed, numbered, number_in, size_in}
 use Rattle.std.proofs.ByRecursion.{kept_by_passes}
 use Rattle.std.proofs.lemmas.List.{length-append, map-append}
-use Rattle.std.proofs.lemmas.Bool.{cases_eq, cases_lt, cases_order, both_ways, cases_Bool, eqb-true, ne_eqb, eq-eqb, leb-true, leb-false, le-leb, lt-leb, and_parts, not-true}
+use Rattle.std.proofs.lemmas.Bool.{cases_eq, cases_lt, cases_order, both_ways, cases_Bool, eqb-true, ne_eqb, eq-eqb, leb-false, le-leb, lt-leb, and_parts, not-true}
 use Rattle.std.specs.List.{AllByRecursion}
 use Rattle.rules.proofs.Moments.{all_mono}
 

@@ -1,11 +1,11 @@
 -- Soundness is a fact: it holds in at most one way.
-use Rattle.std.proofs.Common.{◌≡◌, ℕ, ◌<◌, ◌≤◌, Bool, true, false, List, [], ◌∷◌, Some, None, Option, Ordering, sym, refl, ◌∙◌, arith}
+use Rattle.std.proofs.Common.{◌≡◌, ℕ, List, [], ◌∷◌, Some, None, Option, Ordering, sym, refl, ◌∙◌, arith}
 use mathlib.Core.Path.{path_j}
 use mathlib.Core.Bool.{Bool-set}
-use mathlib.Core.HLevel.{Π_prop, ×_prop, Unit-prop}
+use mathlib.Core.HLevel.{×_prop, Unit-prop}
 use native.Mathlib.Bridge.{le_prop}
 use native.Mathlib.Nat.{ℕ_set}
-use Rattle.rules.specs.Soundness.{Sound, SlotSound, PlacesApart, same_place}
+use Rattle.rules.specs.Soundness.{Sound, SlotSound, PlacesApart}
 use Rattle.rules.specs.Worlds.{State, slot_at}
 use Rattle.shelf.specs.Laws.{Apart}
 use Rattle.shelf.specs.Places.{Ascending}

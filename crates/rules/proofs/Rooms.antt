@@ -9,7 +9,7 @@ use Rattle.shelf.specs.Places.{carries}
 use Rattle.shelf.specs.declared.entries.Entry.{Entry}
 use Rattle.slots.specs.Slides.{Slot, free, arriving, held, numbered}
 use Rattle.std.proofs.lemmas.List.{length-map}
-use Rattle.std.proofs.lemmas.Bool.{cond_both, both_ways, cases_eq, cases_Bool, eqb-true, eqb-false, eq-eqb, ne_eqb, not-true, or_left, or_right}
+use Rattle.std.proofs.lemmas.Bool.{cond_both, both_ways, cases_eq, eqb-true, eqb-false, eq-eqb, ne_eqb, not-true}
 use Rattle.std.specs.List.{AllByRecursion}
 use Rattle.rules.proofs.Filters.{all_kept, kept_pass, apart_kept}
 use Rattle.rules.proofs.Moments.{all_mono}

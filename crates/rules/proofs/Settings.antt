@@ -1,15 +1,14 @@
 -- A setting in one pass: once what has expired is gone and the triggers below t are dropped, it is a pass to t.
-use Rattle.std.proofs.Common.{◌≡◌, ℕ, ◌≤◌, Bool, true, false, cond, not, ◌&&◌, eqb, leb, List, map, length, filter, sym, refl, ap, ◌∙◌, ap₂, arith}
+use Rattle.std.proofs.Common.{◌≡◌, ℕ, ◌≤◌, Bool, true, false, not, ◌&&◌, eqb, leb, map, filter, refl, ap, ◌∙◌, ap₂, arith}
 use Rattle.rules.proofs.Filters.{kept_pass}
-use Rattle.rules.proofs.Moments.{all_mono}
 use Rattle.rules.proofs.Passes.{kept_ext, kept_all, freed_none, slot_false, every, none_lost}
 use Rattle.rules.proofs.Sounds.{alive_after, every_slot}
 use Rattle.rules.specs.Clocks.{prepared}
 use Rattle.rules.specs.Passes.{passed_to, seen, shot, undue, at_clock}
 use Rattle.rules.specs.Worlds.{State, World, slot_at, vacate, holding, due, fire, show_all, any}
 use Rattle.shelf.specs.declared.entries.Entry.{Entry}
-use Rattle.slots.specs.Slides.{Slot, free, ends, numbered}
-use Rattle.std.proofs.lemmas.Bool.{leb-true, le-leb, lt-leb, eq-eqb, ne_eqb, eqb-true, eqb-false}
+use Rattle.slots.specs.Slides.{ends, numbered}
+use Rattle.std.proofs.lemmas.Bool.{leb-true, le-leb, lt-leb, eqb-true, eqb-false}
 use Rattle.std.specs.List.{AllByRecursion}
 
 -- where no slot has expired by t, nothing leaves

@@ -1,16 +1,15 @@
 -- Everything that befalls a state keeps it sound.
-use Rattle.std.proofs.Common.{◌≡◌, ℕ, zero, suc, ◌+◌, ◌-◌, ◌<◌, ◌≤◌, Bool, true, false, cond, not, ◌&&◌, ◌||◌, eqb, ltb, leb, ◌⊎◌, List, [], ◌∷◌, map, length, get_or, set, Some, None, filter, Option, sym, refl, ap, ◌∙◌, subst, ap₂, subst₂, inl, inr, arith}
+use Rattle.std.proofs.Common.{◌≡◌, ℕ, zero, suc, ◌-◌, ◌<◌, ◌≤◌, Bool, true, false, cond, not, ◌&&◌, ◌||◌, eqb, leb, ◌⊎◌, List, [], ◌∷◌, map, length, get_or, set, Some, None, filter, Option, sym, refl, ap, ◌∙◌, subst, subst₂, inl, inr, arith}
 use Rattle.header.proofs.Equal.{same_decides}
 use Rattle.header.specs.Names.{NameRecord, same_name}
 use Rattle.header.specs.declared.kinds.Category.{Category}
-use Rattle.moment.specs.declared.times.Time.{Time}
 use Rattle.rules.specs.Assembly.{put}
 use Rattle.rules.specs.Clocks.{prepared, expired, tick, walk}
 use Rattle.rules.specs.Headers.{is_held, begun}
 use Rattle.rules.specs.Passes.{passed_to}
 use Rattle.rules.specs.Soundness.{Sound, SlotSound, same_place, PlacesApart}
 use Rattle.rules.specs.Triggers.{Verdict, nothing, effect, late, wait}
-use Rattle.rules.specs.Worlds.{State, World, slot_at, any, holding, with_state, vacate, undone, replaced, fire, armed, in_category, categorised}
+use Rattle.rules.specs.Worlds.{State, World, slot_at, any, holding, vacate, fire, armed, categorised}
 use Rattle.shelf.proofs.Chosen.{ascending_kept}
 use Rattle.shelf.proofs.Found.{apart_shelved}
 use Rattle.shelf.proofs.Keys.{later}
@@ -23,8 +22,7 @@ use Rattle.slots.specs.Slides as slides
 use Rattle.slots.specs.Slides.{Slot, free, arriving, held, Object, Slide, arrival, slide_of, with_progress, named, numbered, number_in, ends, passed}
 use Rattle.slots.specs.declared.progress.Progress.{Progress}
 use Rattle.std.proofs.lemmas.List.{length-map, length-set, get_or-set_same, get_or-set_other}
-use Rattle.std.proofs.lemmas.Bool.{cond_both, cond-false, cases_eq, both_ways, cases_Bool, eqb-true, eqb-false, eq-eqb, ne_eqb, leb-true, not-true, or_parts, ltb-false}
-use Rattle.std.proofs.lemmas.Bool.Decides.{nat_tests}
+use Rattle.std.proofs.lemmas.Bool.{cond-false, cases_eq, both_ways, eqb-false, eq-eqb, leb-true, not-true, or_parts, ltb-false}
 use Rattle.std.specs.Cmp.{nat_cmp_total, then_total, on_total}
 use Rattle.std.specs.List.{AllByRecursion}
 use Rattle.rules.proofs.Filters.{all_kept, kept_pass, apart_kept, none_carries, places_apart_kept, places_apart_shelved, same_place_turned, any_freed, any_set, any_at}

@@ -1,6 +1,6 @@
 -- Runs in parts: a list of calls behind another.
 use Rattle.std.proofs.Common.{◌≡◌, List, [], ◌∷◌, ◌++◌, refl, ap}
-use Rattle.rules.specs.Calls.{Call, Reply}
+use Rattle.rules.specs.Calls.{Call}
 use Rattle.rules.specs.Ledgers.{Ledger, ledger, entered}
 use Rattle.rules.specs.Runs.{after, replies, step}
 use Rattle.rules.specs.Worlds.{World}

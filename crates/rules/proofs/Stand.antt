@@ -1,9 +1,7 @@
 -- The laws stand.
-use Rattle.std.proofs.Common.{◌≡◌, ℕ, ◌+◌, ◌-◌, ◌<◌, ◌≤◌, List, [], ◌∷◌, ◌++◌, map, Ok, sym, refl, ap, ◌∙◌, ap₂, arith}
+use Rattle.std.proofs.Common.{◌≡◌, ℕ, ◌-◌, ◌<◌, ◌≤◌, List, ◌∷◌, ◌++◌, map, sym, ap, ◌∙◌, ap₂, arith}
 use Rattle.display.specs.Meaning.{Meaning, Keeps}
-use Rattle.moment.specs.Field.{time_of}
-use Rattle.moment.specs.declared.times.Time.TheVariants.{At}
-use Rattle.rules.specs.Calls.{Call, time, Reply, counted}
+use Rattle.rules.specs.Calls.{Call, time, counted}
 use Rattle.rules.specs.Clocks.{walk, walked}
 use Rattle.rules.specs.Laws.{Chains, MomentsNeverFall, RunLaws, LawsStand, ending, answers, account}
 use Rattle.rules.specs.Ledgers.{Ledger, ledger, entered, pass, blank}

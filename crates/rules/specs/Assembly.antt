@@ -1,5 +1,5 @@
 -- What a segment does: it goes into its object's part of body memory, and with the last one missing the slide is filed.
-use Rattle.std.specs.Prelude.{ℕ, ◌+◌, ◌*◌, Bool, true, false, cond, List, length, slice_set}
+use Rattle.std.specs.Prelude.{ℕ, ◌+◌, ◌*◌, Bool, cond, List, length, slice_set}
 use Rattle.packed.specs.Parts.{pasted}
 use Rattle.refusal.specs.declared.Fault.{Fault}
 use Rattle.refusal.specs.declared.causes.Cause.{Cause}
@@ -9,7 +9,7 @@ use Rattle.rules.specs.Headers.{receiver_fault, on_some}
 use Rattle.rules.specs.Triggers.{Verdict, nothing, effect, late, wait, verdict}
 use Rattle.rules.specs.Worlds.{State, World, slot_at, fits_memory, holding, with_state, vacate, armed, categorised}
 use Rattle.rules.specs.declared.answers.Answer.{Answer}
-use Rattle.rules.specs.declared.answers.Answer.TheVariants.{Taken, Repeat, Filed, Shown, Late, Changed, Refused}
+use Rattle.rules.specs.declared.answers.Answer.TheVariants.{Taken, Repeat, Filed, Shown, Late, Refused}
 use Rattle.slots.specs.Searches.{first_slot}
 use Rattle.slots.specs.Segments.{landing, grown, complete}
 use Rattle.slots.specs.Slides.{Slot, free, arriving, held, Object, slide_of, with_progress, comes, named}

@@ -1,5 +1,5 @@
 -- What a time field does: it sets the clock once, and is a reading after that.
-use Rattle.std.specs.Prelude.{ℕ, zero, suc, ◌+◌, ◌-◌, Bool, cond, leb, List, length, Ok, Err, filter, Result, ◌==◌, nat_le}
+use Rattle.std.specs.Prelude.{ℕ, zero, suc, ◌+◌, ◌-◌, cond, leb, List, length, Ok, Err, filter, Result, ◌==◌, nat_le}
 use Rattle.moment.specs.Field.{time_of, time_fault}
 use Rattle.moment.specs.declared.times.Time.{Time}
 use Rattle.moment.specs.declared.times.Time.TheVariants.{Now, At}

@@ -1,7 +1,6 @@
 -- What a header does: an image begins an object, an update changes a held slide.
-use Rattle.std.specs.Prelude.{ℕ, suc, ◌+◌, Bool, true, false, cond, not, ◌&&◌, List, [], ◌∷◌, Some, None, Ok, Err, Option, Result, ◌==◌, nat_lt}
+use Rattle.std.specs.Prelude.{ℕ, suc, Bool, true, false, cond, not, ◌&&◌, List, [], ◌∷◌, Some, None, Ok, Err, Option, Result, ◌==◌, nat_lt}
 use Rattle.header.specs.Headers.{HeaderRecord, header_of}
-use Rattle.header.specs.Names.{NameRecord}
 use Rattle.header.specs.declared.kinds.Category.{Category}
 use Rattle.header.specs.declared.kinds.Kind.{Kind}
 use Rattle.header.specs.declared.kinds.Kind.TheVariants.{Image, Update}
@@ -12,7 +11,7 @@ use Rattle.refusal.specs.declared.causes.Layer.TheVariants.{Receiver}
 use Rattle.rules.specs.Triggers.{Verdict, nothing, effect, late, wait, verdict}
 use Rattle.rules.specs.Worlds.{State, World, slot_at, fits_memory, with_state, replaced, armed, categorised}
 use Rattle.rules.specs.declared.answers.Answer.{Answer}
-use Rattle.rules.specs.declared.answers.Answer.TheVariants.{Taken, Repeat, Filed, Shown, Late, Changed, Refused}
+use Rattle.rules.specs.declared.answers.Answer.TheVariants.{Taken, Repeat, Shown, Late, Changed, Refused}
 use Rattle.shelf.specs.declared.entries.Entry.{Entry}
 use Rattle.slots.specs.Searches.{first_slot, first_free}
 use Rattle.slots.specs.Slides as slides

@@ -1,6 +1,6 @@
 -- The ledger: what took effect and what waits, worked out from the calls, their arguments and their answers alone.
 -- It sees no slot, no memory and no display.
-use Rattle.std.specs.Prelude.{ℕ, zero, suc, ◌-◌, ◌^◌, Bool, cond, not, List, [], ◌∷◌, ◌++◌, map, Some, None, Ok, Err, filter, Option, Result, ◌==◌, nat_eq, nat_le}
+use Rattle.std.specs.Prelude.{ℕ, zero, suc, ◌-◌, ◌^◌, Bool, cond, not, List, [], ◌∷◌, ◌++◌, map, None, Ok, Err, filter, Option, Result, ◌==◌, nat_eq, nat_le}
 use Rattle.header.specs.Headers.{HeaderRecord, header_of}
 use Rattle.header.specs.Names.{NameRecord, same_name}
 use Rattle.moment.specs.Field.{time_of}

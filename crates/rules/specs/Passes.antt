@@ -1,5 +1,5 @@
 -- A reading in one pass over what waits: what a program does in place of going moment by moment.
-use Rattle.std.specs.Prelude.{ℕ, Bool, cond, not, ◌&&◌, List, map, filter, nat_le}
+use Rattle.std.specs.Prelude.{ℕ, Bool, not, ◌&&◌, map, filter, nat_le}
 use Rattle.rules.specs.Triggers.{Effect}
 use Rattle.rules.specs.Worlds.{State, World, slot_at, holding, vacate, effect_at, show_all}
 use Rattle.shelf.specs.declared.entries.Entry.{Entry}

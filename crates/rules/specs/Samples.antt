@@ -1,7 +1,7 @@
 -- The sample: the clock is set, a header and its one segment come, and a reading shows the slide at its trigger.
-use Rattle.std.specs.Prelude.{◌≡◌, ℕ, true, List, [], ◌∷◌, replicate, Some}
-use Rattle.display.specs.Meaning.{Card, blank}
-use Rattle.rules.specs.Calls.{Call, header, segment, time, Reply, answered, counted}
+use Rattle.std.specs.Prelude.{◌≡◌, true, List, [], ◌∷◌, replicate, Some}
+use Rattle.display.specs.Meaning.{blank}
+use Rattle.rules.specs.Calls.{Call, header, segment, time, answered, counted}
 use Rattle.rules.specs.Runs.{opened, after, replies}
 use Rattle.rules.specs.Worlds.{World}
 use Rattle.rules.specs.declared.answers.Answer.TheVariants.{Taken, Filed}

@@ -1,5 +1,5 @@
 -- The receiver's state, body memory and display, and what befalls them.
-use Rattle.std.specs.Prelude.{ℕ, zero, suc, ◌+◌, ◌-◌, ◌*◌, Bool, true, false, cond, not, ◌&&◌, ◌||◌, List, [], ◌∷◌, ◌++◌, map, length, set, Some, None, filter, Option, ◌==◌, nat_eq, slice_index_or, slice_set}
+use Rattle.std.specs.Prelude.{ℕ, ◌*◌, Bool, false, cond, not, ◌&&◌, ◌||◌, List, [], ◌∷◌, map, length, Some, None, filter, Option, ◌==◌, nat_eq, slice_index_or, slice_set}
 use Rattle.display.specs.Meaning.{Meaning, showed}
 use Rattle.header.specs.declared.kinds.Category.{Category}
 use Rattle.rules.specs.Triggers.{Verdict, nothing, effect, late, wait, Effect}
@@ -7,7 +7,7 @@ use Rattle.shelf.specs.Kinds.{by_moment, by_place}
 use Rattle.shelf.specs.Places.{shelved}
 use Rattle.shelf.specs.declared.entries.Entry.{Entry}
 use Rattle.slots.specs.Pieces.{part}
-use Rattle.slots.specs.Slides.{Slot, free, numbered, number_in, size_in, ends}
+use Rattle.slots.specs.Slides.{Slot, free, numbered, number_in, size_in}
 
 -- the clock (0 until it is set), how many accession numbers were given, the slot given last, the slot size, the twelve slots,
 -- the waiting triggers (a moment with its slot) and the category places (category and slide with an accession number)
