@@ -1,4 +1,4 @@
-use Rattle.std.proofs.Common.{ℕ, ◌-◌, ◌≤◌, List, [], ◌++◌, take, drop, vec_items}
+use Rattle.std.proofs.Common.{◌-◌, ◌≤◌, List, [], ◌++◌, take, drop, vec_items}
 use Rattle.frametime.specs.Answers.{lines_from, EachAnswered}
 use Rattle.frametime.specs.declared.lines.Line.{Line}
 use Rattle.frametime.proofs.answers.answers.Given as goal
