@@ -10,7 +10,7 @@ one_more p xs ys k i x false e h q g = FiltersInPlace-more_no g h (sym e) q
 
 pub loop-i-preserved : goal.loop-i-preserved
 loop-i-preserved g c =
-    rw (c.put-if-next.ensures.entries, c.put-if-next.ensures.next)
+    rw (c.put_if-next.ensures.entries, c.put_if-next.ensures.next)
     (one_more (g.T.EntryTest.test c.args.test.now) c.args.entries.now c.loop-i.entries c.loop-i.next c.loop-i.i c.index-entries-i.result c.passes.result c.passes.ensures (omega arith) c.index-entries-i.is c.loop-i.invariant)
 
 pub returns : goal.returns
