@@ -1,6 +1,6 @@
 -- Going through what waits: what is still to come gives the rest of the shows and of their count.
-use Rattle.std.proofs.Common.{◌≡◌, ℕ, ◌+◌, ◌<◌, Bool, true, false, cond, List, [], ◌∷◌, map, length, get_or, drop, filter, sym, refl, ap, ◌∙◌, arith}
-use Rattle.display.specs.Meaning.{Meaning, showed}
+use Rattle.std.proofs.Common.{◌≡◌, ℕ, ◌+◌, ◌<◌, Bool, true, false, List, [], ◌∷◌, map, length, get_or, drop, filter, sym, ap, ◌∙◌, arith}
+use Rattle.display.specs.Meaning.{Meaning}
 use Rattle.rules.specs.Triggers.{Effect}
 use Rattle.rules.specs.Worlds.{show_all}
 use Rattle.shelf.specs.declared.entries.Entry.{Entry}

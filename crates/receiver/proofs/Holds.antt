@@ -1,5 +1,5 @@
 -- A slot whose object is complete comes to hold its slide.
-use Rattle.std.proofs.Common.{◌≡◌, ℕ, zero, suc, ◌<◌, Bool, true, false, cond, not, ◌&&◌, ◌||◌, ◌⊎◌, List, [], ◌∷◌, map, length, get_or, set, filter, sym, refl, ap, ◌∙◌, ap₂, inl, inr, arith, set-set}
+use Rattle.std.proofs.Common.{◌≡◌, ℕ, zero, suc, ◌<◌, Bool, true, false, cond, not, ◌&&◌, ◌||◌, ◌⊎◌, List, [], ◌∷◌, map, length, get_or, set, sym, refl, ap, ◌∙◌, inl, inr, arith, set-set}
 use Rattle.receiver.specs.Arrivals.{more}
 use Rattle.rules.proofs.Passes.{kept_same, getD_vacate}
 use Rattle.rules.proofs.Sounds.{at_set, sound_vacate, sound_received, sound_filed, arriving_within}
@@ -9,7 +9,6 @@ use Rattle.rules.specs.Worlds.{State, slot_at, any, vacate}
 use Rattle.slots.specs.Segments.{grown, complete, after_segment}
 use Rattle.slots.specs.Slides as slides
 use Rattle.slots.specs.Slides.{Slot, Object, free, arriving, held, named, numbered, slide_of, with_progress, filed_if, moved}
-use Rattle.slots.specs.declared.progress.Progress.{Progress}
 use Rattle.slots.specs.declared.progress.Segment.{Segment}
 use Rattle.std.proofs.lemmas.List.{get_or-set_same}
 use lib.Seq.{map-set}

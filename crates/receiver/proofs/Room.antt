@@ -1,5 +1,5 @@
 -- There is room: for one more entry on a rack, and for a body in its slot.
-use Rattle.std.proofs.Common.{◌≡◌, ℕ, ◌≤◌, Bool, true, cond, ltb, List, length, sym, refl, ap, ◌∙◌, arith}
+use Rattle.std.proofs.Common.{◌≡◌, ℕ, ◌≤◌, Bool, cond, ltb, List, length, ◌∙◌, arith}
 use Rattle.rules.specs.Soundness.{Sound, SlotSound}
 use Rattle.rules.specs.Worlds.{State, slot_at}
 use Rattle.slots.specs.Slides.{Slot, free, arriving, held, size_in}

@@ -1,5 +1,5 @@
 -- A segment call by what is found, and where the segment lands.
-use Rattle.std.proofs.Common.{◌≡◌, ℕ, ◌+◌, ◌*◌, ◌<◌, ◌≤◌, Bool, true, false, List, length, Some, None, Option, sym, refl, ap, ◌∙◌, arith}
+use Rattle.std.proofs.Common.{◌≡◌, ℕ, ◌+◌, ◌*◌, ◌<◌, ◌≤◌, Bool, true, false, List, Some, None, Option, sym, refl, ap, ◌∙◌, arith}
 use Rattle.refusal.specs.declared.causes.Cause.TheVariants.{BodyMemoryMisfit, NotArriving}
 use Rattle.rules.specs.Assembly.{assembly_fault, on_arriving, on_landing, segment_of, segment_step}
 use Rattle.rules.specs.Headers.{receiver_fault, on_some}

@@ -1,5 +1,5 @@
 -- Settings and readings by what the time field says.
-use Rattle.std.proofs.Common.{◌≡◌, ℕ, ◌-◌, ◌<◌, ◌≤◌, true, false, cond, leb, List, length, filter, Result, sym, ap, ◌∙◌, ap₂, arith}
+use Rattle.std.proofs.Common.{◌≡◌, ℕ, ◌-◌, ◌<◌, ◌≤◌, true, false, leb, List, length, filter, Result, sym, ap, ◌∙◌, ap₂}
 use Rattle.moment.specs.Field.{time_of}
 use Rattle.moment.specs.declared.times.Time.{Time}
 use Rattle.refusal.specs.declared.Fault.{Fault}

@@ -13,9 +13,9 @@ returns-in-Held c =
     c.keep.ensures
     ∙ without_held (filed c.args.places.now) (get_or (all_seen c.args.slots.now) c.args.k free) _ (held_here rs c.args.k c.index-slots-k.result there c.in-Held.holding c.in-Held.is)
 
-pub returns-in-default : goal.returns-in-default
-returns-in-default c =
+pub returns-in_default : goal.returns-in_default
+returns-in_default c =
     let rs = c.args.slots.now.records in
     let there : c.args.k < length rs = omega (arith, c.args.slots.now.twelve) in
     without_none (filed c.args.places.now) (get_or (all_seen c.args.slots.now) c.args.k free)
-    (λ n. not_held_here rs c.args.k c.index-slots-k.result there (numbered n) refl (λ o. refl) c.in-default.not-Held)
+    (λ n. not_held_here rs c.args.k c.index-slots-k.result there (numbered n) refl (λ o. refl) c.in_default.not-Held)

@@ -8,4 +8,4 @@ use Rattle.receiver.proofs.questions.above.Goals as goal
 pub returns : goal.returns
 returns c =
     let xs = c.args.list.now in
-    c.first-above.ensures.value (then_total (on_total (λ p. p.0) nat_cmp_total) (on_total (λ p. p.1) nat_cmp_total)) ∙ ap (first_above by_place c.args.place) (take_all (length xs) xs (omega arith))
+    c.first_above.ensures.value (then_total (on_total (λ p. p.0) nat_cmp_total) (on_total (λ p. p.1) nat_cmp_total)) ∙ ap (first_above by_place c.args.place) (take_all (length xs) xs (omega arith))

@@ -1,4 +1,4 @@
-use Rattle.std.proofs.Common.{◌≡◌, ℕ, ◌≤◌, length, sym, refl, ap, ◌∙◌}
+use Rattle.std.proofs.Common.{◌≤◌, length, sym, ap, ◌∙◌}
 use Rattle.rack.specs.Listed.{triggers}
 use Rattle.receiver.proofs.Room.{put_there}
 use Rattle.receiver.specs.Verdicts.{verdict_of}

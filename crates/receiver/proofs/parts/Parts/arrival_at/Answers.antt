@@ -1,4 +1,4 @@
-use Rattle.std.proofs.Common.{◌≡◌, ◌<◌, length, get_or, sym, ap, ◌∙◌, arith}
+use Rattle.std.proofs.Common.{◌<◌, length, sym, ap, ◌∙◌, arith}
 use Rattle.header.specs.Kept.{no_name}
 use Rattle.receiver.proofs.Arrived.{arrives}
 use Rattle.receiver.proofs.Looks.{seen_at}

@@ -1,4 +1,4 @@
-use Rattle.std.proofs.Common.{◌≡◌, ℕ, ◌+◌, ◌-◌, ◌*◌, ◌<◌, length, sym, ap, ◌∙◌, arith}
+use Rattle.std.proofs.Common.{◌≡◌, ◌+◌, ◌-◌, ◌*◌, ◌<◌, length, sym, ap, ◌∙◌, arith}
 use Rattle.receiver.proofs.Looks.{seen_at}
 use Rattle.receiver.proofs.Room.{body_fits}
 use Rattle.receiver.specs.Views.{state_of}
@@ -9,8 +9,8 @@ use Rattle.slots.specs.Seen.{seen}
 use Rattle.slots.specs.Slides.{size_in}
 use Rattle.receiver.proofs.parts.Parts.body_in.Goals as goal
 
-pub slice-bounds-result-end : goal.slice-bounds-result-end
-slice-bounds-result-end c =
+pub slice_bounds-result-end : goal.slice_bounds-result-end
+slice_bounds-result-end c =
     let s : State = state_of c.args.self.now in
     let k = c.args.k in
     let xs = c.args.self.now.slots.records in

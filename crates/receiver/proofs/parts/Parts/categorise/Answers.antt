@@ -1,4 +1,4 @@
-use Rattle.std.proofs.Common.{◌≡◌, ℕ, ◌≤◌, Bool, true, false, not, ◌&&◌, ◌||◌, eqb, List, length, filter, sym, refl, ap, ◌∙◌}
+use Rattle.std.proofs.Common.{◌≡◌, ℕ, ◌≤◌, Bool, true, false, not, ◌&&◌, ◌||◌, eqb, length, sym, refl, ap, ◌∙◌}
 use Rattle.rack.specs.Listed.{filed}
 use Rattle.receiver.proofs.Room.{put_there}
 use Rattle.receiver.specs.Views.{state_of}

@@ -1,4 +1,4 @@
-use Rattle.std.proofs.Common.{◌≡◌, ℕ, ◌*◌, ◌<◌, [], length, sym, ap, ◌∙◌, subst, arith}
+use Rattle.std.proofs.Common.{◌*◌, ◌<◌, [], length, sym, ap, ◌∙◌, subst, arith}
 use Rattle.receiver.proofs.Holds.{sound_next, slot_next}
 use Rattle.receiver.proofs.Updated.{held_number}
 use Rattle.receiver.specs.Arrivals.{object_at, more}

@@ -1,6 +1,6 @@
-use Rattle.std.proofs.Common.{◌≡◌, ◌<◌, length, set, sym, ap, ◌∙◌, arith}
+use Rattle.std.proofs.Common.{◌≡◌, ◌<◌, length, ap, ◌∙◌, arith}
 use Rattle.receiver.proofs.Holds.{still_arriving, held_next, moved_held}
-use Rattle.receiver.specs.Arrivals.{object_at, more}
+use Rattle.receiver.specs.Arrivals.{object_at}
 use Rattle.receiver.specs.Views.{state_of}
 use Rattle.rules.specs.Assembly.{put}
 use Rattle.rules.specs.Worlds.{State, slot_at, vacate, holding}
@@ -19,7 +19,7 @@ returns c =
     let o : Object = object_at p k c.args.arrival in
     let v : State = state_of c.vacate.new.self in
     let lt : k < length s.slots = omega (arith, p.slots.twelve, c.requires.within, length-map p.slots.records seen) in
-    let ve : v ≡ vacate (named o.image.name) s = c.vacate.ensures ∙ ap (λ n. vacate (named n) s) c.name-at-name.ensures in
+    let ve : v ≡ vacate (named o.image.name) s = c.vacate.ensures ∙ ap (λ n. vacate (named n) s) c.name_at-name.ensures in
     ap (λ xs. holding xs v.waiting v.places v) c.on.ensures.seen
     ∙ (ap (λ u. put k (moved (slides.segment g) (slot_at u k)) u) ve
     ∙ (ap (λ z. put k (moved (slides.segment g) z) (vacate (named o.image.name) s)) (still_arriving s k o g c.requires.arrives lt)

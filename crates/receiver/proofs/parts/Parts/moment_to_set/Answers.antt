@@ -12,22 +12,22 @@ returns-then-memory-self c = record {
   fits = tt;
 }
 
-pub returns-in-err-read-time : goal.returns-in-err-read-time
-returns-in-err-read-time c =
-    let p = err_from_is_err_and c.from-residual.result c.from-residual.ensures.1 in
+pub returns-in_err-read_time : goal.returns-in_err-read_time
+returns-in_err-read_time c =
+    let p = err_from_is_err_and c.from_residual.result c.from_residual.ensures.1 in
     rw (p.1, p.2) (record {
-      value = λ m. setting_of (world_of c.args.self.now c.args.memory.now m) c.args.field.now (Err c.in-err-read-time.field-0.0) (eq-eqb (length c.args.memory.now) (12 * c.args.self.now.room) c.if-memory-self.false) c.in-err-read-time.ensures;
+      value = λ m. setting_of (world_of c.args.self.now c.args.memory.now m) c.args.field.now (Err c.in_err-read_time.field-0.0) (eq-eqb (length c.args.memory.now) (12 * c.args.self.now.room) c.if-memory-self.false) c.in_err-read_time.ensures;
       fits = tt;
     })
 
 pub returns-in-Now : goal.returns-in-Now
 returns-in-Now c = record {
-  value = λ m. setting_of (world_of c.args.self.now c.args.memory.now m) c.args.field.now (Ok Now) (eq-eqb (length c.args.memory.now) (12 * c.args.self.now.room) c.if-memory-self.false) (ap Ok (sym c.in-Now.is) ∙ c.in-ok-read-time.ensures);
+  value = λ m. setting_of (world_of c.args.self.now c.args.memory.now m) c.args.field.now (Ok Now) (eq-eqb (length c.args.memory.now) (12 * c.args.self.now.room) c.if-memory-self.false) (ap Ok (sym c.in-Now.is) ∙ c.in_ok-read_time.ensures);
   fits = tt;
 }
 
 pub returns-in-At : goal.returns-in-At
 returns-in-At c = record {
-  value = λ m. setting_of (world_of c.args.self.now c.args.memory.now m) c.args.field.now (Ok (At c.in-At.moment)) (eq-eqb (length c.args.memory.now) (12 * c.args.self.now.room) c.if-memory-self.false) (ap Ok (sym c.in-At.is) ∙ c.in-ok-read-time.ensures);
+  value = λ m. setting_of (world_of c.args.self.now c.args.memory.now m) c.args.field.now (Ok (At c.in-At.moment)) (eq-eqb (length c.args.memory.now) (12 * c.args.self.now.room) c.if-memory-self.false) (ap Ok (sym c.in-At.is) ∙ c.in_ok-read_time.ensures);
   fits = c.if-memory-self.false;
 }

@@ -7,7 +7,7 @@ use Rattle.slots.specs.Slides as slides
 use Rattle.std.proofs.lemmas.List.{at_drop_all}
 use Rattle.receiver.proofs.Oldest.{better, oldest_more}
 use Rattle.receiver.proofs.parts.Parts.oldest.Goals as goal
-use Rattle.receiver.proofs.parts.Parts.oldest.Goals.{then-goes-before, else-goes-before}
+use Rattle.receiver.proofs.parts.Parts.oldest.Goals.{then-goes_before, else-goes_before}
 
 -- one slot on, whichever way the test came out
 one_more : (s : State) (k : ℕ) (best new all : Option ℕ) (b : Bool) → k < length s.slots → b ≡ better s k best → new ≡ cond b (Some k) best → oldest_from s k (drop k s.slots) best ≡ all → oldest_from s (k + 1) (drop (k + 1) s.slots) new ≡ all
@@ -19,11 +19,11 @@ loop-k-preserved c =
     let s : State = state_of c.args.self.now in
     let k = c.loop-k.k in
     let there : k < length s.slots = omega (arith, twelve_seen c.args.self.now.slots, c.loop-k-test.true) in
-    elim c.if-goes-before.branch [
-      | then-goes-before w ↦
-          (rw w.best-is c.loop-k-test.true, one_more s k c.loop-k.best _ _ true there w.if-goes-before.ensures w.best-is c.loop-k.invariant.1)
-      | else-goes-before w ↦
-          (rw w.best-is c.loop-k.invariant.0, one_more s k c.loop-k.best _ _ false there w.if-goes-before.ensures w.best-is c.loop-k.invariant.1)
+    elim c.if-goes_before.branch [
+      | then-goes_before w ↦
+          (rw w.best-is c.loop-k-test.true, one_more s k c.loop-k.best _ _ true there w.if-goes_before.ensures w.best-is c.loop-k.invariant.1)
+      | else-goes_before w ↦
+          (rw w.best-is c.loop-k.invariant.0, one_more s k c.loop-k.best _ _ false there w.if-goes_before.ensures w.best-is c.loop-k.invariant.1)
     ]
 
 pub returns : goal.returns

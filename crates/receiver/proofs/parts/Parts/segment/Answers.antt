@@ -13,35 +13,35 @@ pub returns-then-memory-self : goal.returns-then-memory-self
 returns-then-memory-self g c =
     segment_misfit (world_of c.args.self.now c.args.memory.now (g.D.Display.meaning c.args.display.now)) c.args.transport c.args.sent.now.number c.args.sent.now.last c.args.sent.now.bytes.now (ne_eqb (length c.args.memory.now) (12 * c.args.self.now.room) c.if-memory-self.true)
 
-pub returns-in-default : goal.returns-in-default
-returns-in-default g c =
-    none_arrives (world_of c.args.self.now c.args.memory.now (g.D.Display.meaning c.args.display.now)) c.args.transport c.args.sent.now.number c.args.sent.now.last c.args.sent.now.bytes.now (eq-eqb (length c.args.memory.now) (12 * c.args.self.now.room) c.if-memory-self.false) c.in-default.ensures.value
+pub returns-in_default : goal.returns-in_default
+returns-in_default g c =
+    none_arrives (world_of c.args.self.now c.args.memory.now (g.D.Display.meaning c.args.display.now)) c.args.transport c.args.sent.now.number c.args.sent.now.last c.args.sent.now.bytes.now (eq-eqb (length c.args.memory.now) (12 * c.args.self.now.room) c.if-memory-self.false) c.in_default.ensures.value
 
-pub returns-in-default-arrival-at : goal.returns-in-default-arrival-at
-returns-in-default-arrival-at g c =
-    no_object (world_of c.args.self.now c.args.memory.now (g.D.Display.meaning c.args.display.now)) c.args.transport c.args.sent.now.number c.args.sent.now.last c.args.sent.now.bytes.now c.in-Some.k (eq-eqb (length c.args.memory.now) (12 * c.args.self.now.room) c.if-memory-self.false) c.in-Some.ensures.value c.in-default-arrival-at.ensures
+pub returns-in_default-arrival_at : goal.returns-in_default-arrival_at
+returns-in_default-arrival_at g c =
+    no_object (world_of c.args.self.now c.args.memory.now (g.D.Display.meaning c.args.display.now)) c.args.transport c.args.sent.now.number c.args.sent.now.last c.args.sent.now.bytes.now c.in-Some.k (eq-eqb (length c.args.memory.now) (12 * c.args.self.now.room) c.if-memory-self.false) c.in-Some.ensures.value c.in_default-arrival_at.ensures
 
 pub returns-in-Misfit : goal.returns-in-Misfit
 returns-in-Misfit g c =
-    object_takes (world_of c.args.self.now c.args.memory.now (g.D.Display.meaning c.args.display.now)) c.args.transport c.args.sent.now.number c.args.sent.now.last c.args.sent.now.bytes.now c.in-Some.k (object_at c.args.self.now c.in-Some.k c.in-Some-arrival-at.arrival) Misfit (eq-eqb (length c.args.memory.now) (12 * c.args.self.now.room) c.if-memory-self.false) c.in-Some.ensures.value c.in-Some-arrival-at.ensures c.in-Misfit.ensures
+    object_takes (world_of c.args.self.now c.args.memory.now (g.D.Display.meaning c.args.display.now)) c.args.transport c.args.sent.now.number c.args.sent.now.last c.args.sent.now.bytes.now c.in-Some.k (object_at c.args.self.now c.in-Some.k c.in-Some-arrival_at.arrival) Misfit (eq-eqb (length c.args.memory.now) (12 * c.args.self.now.room) c.if-memory-self.false) c.in-Some.ensures.value c.in-Some-arrival_at.ensures c.in-Misfit.ensures
 
 pub returns-in-Again : goal.returns-in-Again
 returns-in-Again g c =
-    object_takes (world_of c.args.self.now c.args.memory.now (g.D.Display.meaning c.args.display.now)) c.args.transport c.args.sent.now.number c.args.sent.now.last c.args.sent.now.bytes.now c.in-Some.k (object_at c.args.self.now c.in-Some.k c.in-Some-arrival-at.arrival) Again (eq-eqb (length c.args.memory.now) (12 * c.args.self.now.room) c.if-memory-self.false) c.in-Some.ensures.value c.in-Some-arrival-at.ensures c.in-Again.ensures
+    object_takes (world_of c.args.self.now c.args.memory.now (g.D.Display.meaning c.args.display.now)) c.args.transport c.args.sent.now.number c.args.sent.now.last c.args.sent.now.bytes.now c.in-Some.k (object_at c.args.self.now c.in-Some.k c.in-Some-arrival_at.arrival) Again (eq-eqb (length c.args.memory.now) (12 * c.args.self.now.room) c.if-memory-self.false) c.in-Some.ensures.value c.in-Some-arrival_at.ensures c.in-Again.ensures
 
 pub returns-in-At : goal.returns-in-At
 returns-in-At g c =
     let p = c.args.self.now in
     let k = c.in-Some.k in
-    let o : Object = object_at c.args.self.now c.in-Some.k c.in-Some-arrival-at.arrival in
+    let o : Object = object_at c.args.self.now c.in-Some.k c.in-Some-arrival_at.arrival in
     let xs = c.args.sent.now.bytes.now in
     let u = segment_of c.args.sent.now.number c.args.sent.now.last xs in
     let at = k * p.room + c.in-At.offset in
     let m = g.D.Display.meaning c.args.display.now in
     let lt : k < 12 = omega (arith, c.in-Some.ensures.within, p.slots.twelve) in
-    let within : at + length xs ≤ length c.args.memory.now = omega (arith, lands_in_memory (state_of p) c.requires k o c.in-Some-arrival-at.ensures lt u c.in-At.offset c.in-At.ensures, c.if-memory-self.false) in
+    let within : at + length xs ≤ length c.args.memory.now = omega (arith, lands_in_memory (state_of p) c.requires k o c.in-Some-arrival_at.ensures lt u c.in-At.offset c.in-At.ensures, c.if-memory-self.false) in
     let e : c.paste.new.memory ≡ pasted c.args.memory.now at xs =
     c.paste.ensures.after ∙ cond-true c.paste.result (pasted c.args.memory.now at xs) c.args.memory.now (c.paste.ensures.fits ∙ le-leb (at + length xs) (length c.args.memory.now) within) in
     c.lay.ensures
     ∙ (ap (λ (x : List ℕ). laid k o u (world_of p x m)) e
-    ∙ object_takes (world_of c.args.self.now c.args.memory.now (g.D.Display.meaning c.args.display.now)) c.args.transport c.args.sent.now.number c.args.sent.now.last c.args.sent.now.bytes.now c.in-Some.k (object_at c.args.self.now c.in-Some.k c.in-Some-arrival-at.arrival) (At c.in-At.offset) (eq-eqb (length c.args.memory.now) (12 * c.args.self.now.room) c.if-memory-self.false) c.in-Some.ensures.value c.in-Some-arrival-at.ensures c.in-At.ensures)
+    ∙ object_takes (world_of c.args.self.now c.args.memory.now (g.D.Display.meaning c.args.display.now)) c.args.transport c.args.sent.now.number c.args.sent.now.last c.args.sent.now.bytes.now c.in-Some.k (object_at c.args.self.now c.in-Some.k c.in-Some-arrival_at.arrival) (At c.in-At.offset) (eq-eqb (length c.args.memory.now) (12 * c.args.self.now.room) c.if-memory-self.false) c.in-Some.ensures.value c.in-Some-arrival_at.ensures c.in-At.ensures)

@@ -1,4 +1,4 @@
-use Rattle.std.proofs.Common.{◌≡◌, ℕ, ◌*◌, leb, length, filter, sym, ap, ◌∙◌, subst, ap₂}
+use Rattle.std.proofs.Common.{ℕ, ◌*◌, leb, length, filter, sym, ap, ◌∙◌, subst, ap₂}
 use Rattle.receiver.specs.Views.{state_of, world_of}
 use Rattle.rules.proofs.Settings.{due_seen, setting_passes}
 use Rattle.rules.proofs.Sounds.{sound_vacate, sound_filtered}

@@ -1,5 +1,5 @@
-use Rattle.std.proofs.Common.{◌≡◌, ℕ, ◌<◌, List, [], ◌∷◌, map, length, get_or, drop, filter, sym, ap, ◌∙◌, subst, ap₂, arith}
-use Rattle.receiver.proofs.Dues.{Coming, coming_shown, coming_passed}
+use Rattle.std.proofs.Common.{◌≡◌, ℕ, ◌<◌, List, [], ◌∷◌, map, length, get_or, drop, filter, sym, ap, ◌∙◌, subst, arith}
+use Rattle.receiver.proofs.Dues.{coming_shown, coming_passed}
 use Rattle.receiver.specs.Views.{state_of, world_of}
 use Rattle.rules.proofs.Rooms.{waiting_within}
 use Rattle.rules.specs.Soundness.{Sound}
@@ -11,15 +11,15 @@ use Rattle.std.proofs.lemmas.List.{get_or_default, drop_all}
 use Rattle.std.proofs.lemmas.Bool.{cond-true, cond-false}
 use Rattle.std.specs.List.{AllByRecursion}
 use Rattle.receiver.proofs.parts.Parts.show_due.Goals as goal
-use Rattle.receiver.proofs.parts.Parts.show_due.Goals.{then-show-if-due, else-show-if-due}
+use Rattle.receiver.proofs.parts.Parts.show_due.Goals.{then-show_if_due, else-show_if_due}
 
 -- an entry of what waits is for a slot
 slot_within : (s : State) → Sound s → (ws : List (Entry ℕ)) → ws ≡ s.waiting → (i : ℕ) (d : Entry ℕ) → i < length ws → (get_or ws i d).load < 12
 slot_within s h ws e i d lt =
     all-has (λ (x : Entry ℕ). x.load < 12) ws (get_or ws i d) (subst (λ xs. AllByRecursion (λ (x : Entry ℕ). x.load < 12) xs) (sym e) (waiting_within s h)) (has_get_or ws i d lt)
 
-pub show-if-due-requires : goal.show-if-due-requires
-show-if-due-requires g c = record {
+pub show_if_due-requires : goal.show_if_due-requires
+show_if_due-requires g c = record {
   within = slot_within (state_of c.args.self.now) c.requires.sound c.list-list.result.now c.list-list.ensures.value c.loop-entry.entry-index (record { key = 0; load = 0 }) c.loop-entry-test.true;
   fits = c.requires.fits;
   sound = c.requires.sound;
@@ -39,16 +39,16 @@ loop-entry-preserved g c =
     let lt = c.loop-entry-test.true in
     let same : e ≡ get_or ws i e = get_or_default ws i (record { key = 0; load = 0 }) e lt in
     let now_at = g.D.Display.meaning c.loop-entry.display in
-    let due = c.show-if-due.result in
-    let after = g.D.Display.meaning c.show-if-due.new.display in
+    let due = c.show_if_due.result in
+    let after = g.D.Display.meaning c.show_if_due.new.display in
     let shown = show_all now_at (shot w e ∷ []) in
-    elim c.if-show-if-due.branch [
-      | then-show-if-due v ↦
+    elim c.if-show_if_due.branch [
+      | then-show_if_due v ↦
           rw v.count-is
-          (omega (arith, c.loop-entry.invariant.0), coming_shown p (shot w) (length all) (show_all m (map (shot w) all)) n now_at after ws i e lt same (sym c.show-if-due.ensures.due ∙ v.if-show-if-due.true) (c.show-if-due.ensures.shows ∙ cond-true due shown now_at v.if-show-if-due.true) c.loop-entry.invariant.1)
-      | else-show-if-due v ↦
-          rw (v.count-is, c.show-if-due.ensures.shows ∙ cond-false due shown now_at v.if-show-if-due.false)
-          (omega (arith, c.loop-entry.invariant.0), coming_passed p (shot w) (length all) (show_all m (map (shot w) all)) n now_at ws i e lt same (sym c.show-if-due.ensures.due ∙ v.if-show-if-due.false) c.loop-entry.invariant.1)
+          (omega (arith, c.loop-entry.invariant.0), coming_shown p (shot w) (length all) (show_all m (map (shot w) all)) n now_at after ws i e lt same (sym c.show_if_due.ensures.due ∙ v.if-show_if_due.true) (c.show_if_due.ensures.shows ∙ cond-true due shown now_at v.if-show_if_due.true) c.loop-entry.invariant.1)
+      | else-show_if_due v ↦
+          rw (v.count-is, c.show_if_due.ensures.shows ∙ cond-false due shown now_at v.if-show_if_due.false)
+          (omega (arith, c.loop-entry.invariant.0), coming_passed p (shot w) (length all) (show_all m (map (shot w) all)) n now_at ws i e lt same (sym c.show_if_due.ensures.due ∙ v.if-show_if_due.false) c.loop-entry.invariant.1)
     ]
 
 pub returns : goal.returns

@@ -1,4 +1,4 @@
-use Rattle.std.proofs.Common.{◌≡◌, ℕ, ◌*◌, ◌<◌, sym, ap, ◌∙◌, subst, arith}
+use Rattle.std.proofs.Common.{◌*◌, sym, ap, ◌∙◌, subst, arith}
 use Rattle.header.specs.Finds.{name_of_label}
 use Rattle.receiver.proofs.Updated.{named_number, recategorised_room, sound_renamed}
 use Rattle.receiver.specs.Views.{state_of, world_of}
@@ -13,7 +13,7 @@ recategorise-requires g c =
     let s : State = state_of c.args.self.now in
     record {
       sound = c.requires.sound;
-      held = ap (λ n. any (numbered n) s.slots) c.number-at-number.ensures ∙ named_number s (name_of_label c.args.header.now.name) c.in-Some.k (sym c.in-Some.ensures.value);
+      held = ap (λ n. any (numbered n) s.slots) c.number_at-number.ensures ∙ named_number s (name_of_label c.args.header.now.name) c.in-Some.k (sym c.in-Some.ensures.value);
     }
 
 pub arm-requires : goal.arm-requires
@@ -22,10 +22,10 @@ arm-requires g c =
     let w : World = world_of c.args.self.now c.args.memory.now m in
     let k = c.in-Some.k in
     let cat = c.args.header.now.category in
-    let n = c.number-at-number.result in
+    let n = c.number_at-number.result in
     let e = c.recategorise.ensures m c.args.memory.now in
     record {
       within = omega (arith, c.in-Some.ensures.within, c.args.self.now.slots.twelve);
       fits = c.requires.fits ∙ ap (λ r. 12 * r) (sym (ap (λ (x : World). x.state.room) e ∙ recategorised_room cat n w));
-      sound = subst Sound (sym (ap (λ (x : World). x.state) e ∙ ap (λ j. (recategorised cat j w).state) c.number-at-number.ensures)) (sound_renamed cat k w (name_of_label c.args.header.now.name) (sym c.in-Some.ensures.value) c.requires.sound);
+      sound = subst Sound (sym (ap (λ (x : World). x.state) e ∙ ap (λ j. (recategorised cat j w).state) c.number_at-number.ensures)) (sound_renamed cat k w (name_of_label c.args.header.now.name) (sym c.in-Some.ensures.value) c.requires.sound);
     }

@@ -3,6 +3,6 @@ use Rattle.receiver.proofs.Looks.{none_leaves}
 use Rattle.receiver.specs.Views.{state_of}
 use Rattle.receiver.proofs.parts.Parts.vacate.Goals as goal
 
-pub returns-then-is-none : goal.returns-then-is-none
-returns-then-is-none g c =
-    sym (none_leaves (g.T.SlotTest.test c.args.test.now) c.requires (state_of c.args.self.now) (ap is_some (sym c.find.ensures.value) ∙ c.if-is-none.ensures))
+pub returns-then-is_none : goal.returns-then-is_none
+returns-then-is_none g c =
+    sym (none_leaves (g.T.SlotTest.test c.args.test.now) c.requires (state_of c.args.self.now) (ap is_some (sym c.find.ensures.value) ∙ c.if-is_none.ensures))

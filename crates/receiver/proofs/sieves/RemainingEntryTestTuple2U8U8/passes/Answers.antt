@@ -1,4 +1,4 @@
-use Rattle.std.proofs.Common.{◌≡◌, Bool, not, ◌&&◌, is_some, sym, ap, ◌∙◌}
+use Rattle.std.proofs.Common.{Bool, not, ◌&&◌, is_some, ap, ◌∙◌}
 use Rattle.slots.specs.Seen.{all_seen}
 use Rattle.slots.specs.Slides.{Slot, numbered}
 use Rattle.receiver.proofs.Looks.{found_any}

@@ -1,4 +1,4 @@
-use Rattle.std.proofs.Common.{◌≡◌, ◌<◌, ◌≤◌, not, length, sym, ap, ◌∙◌, arith}
+use Rattle.std.proofs.Common.{◌<◌, ◌≤◌, not, length, sym, ap, ◌∙◌, arith}
 use Rattle.slots.specs.Seen.{seen}
 use Rattle.receiver.proofs.Looks.{seen_at, seen_past}
 use Rattle.receiver.proofs.sieves.StayingEntryTestU64.passes.Goals as goal
