@@ -1,5 +1,5 @@
 -- Calls and replies as the rules have them, and the refusal in a reply.
-use Rattle.std.specs.Prelude.{ℕ, Some, None, vec_items, Option}
+use Rattle.std.specs.Prelude.{Some, None, vec_items, Option}
 use Rattle.calls.specs.declared.Call.{Call}
 use Rattle.calls.specs.declared.Call.TheVariants.{Header, Segment, Time, FindName, NextPlace, Body, Card}
 use Rattle.calls.specs.declared.Reply.{Reply}

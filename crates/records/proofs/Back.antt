@@ -1,5 +1,5 @@
 -- What was written is read back, record by record.
-use Rattle.std.proofs.Common.{◌≡◌, ℕ, zero, suc, ◌+◌, ◌*◌, ◌/◌, ◌%◌, ◌<◌, ◌≤◌, leb, List, [], ◌∷◌, ◌++◌, map, length, take, drop, Result, sym, refl, ap, ◌∙◌, arith, length-append}
+use Rattle.std.proofs.Common.{◌≡◌, ℕ, zero, suc, ◌+◌, ◌*◌, ◌≤◌, leb, List, [], ◌∷◌, ◌++◌, map, length, take, drop, Result, refl, ap, ◌∙◌, arith, length-append}
 use Rattle.packed.specs.Bits.{field, whole, bytes_of}
 use Rattle.refusal.specs.declared.Fault.{Fault}
 use Rattle.rules.specs.Calls.{Call}

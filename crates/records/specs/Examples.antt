@@ -1,7 +1,7 @@
 -- Worked examples of records, of the calls that they make and of their lines.
 use Rattle.std.specs.Prelude.{◌≡◌, ℕ, true, List, [], ◌∷◌, Some, None, Ok, Err, Result}
 use Rattle.refusal.specs.declared.Fault.{Fault}
-use Rattle.rules.specs.Calls.{Call, header, segment, time, card, counted, refused, shows}
+use Rattle.rules.specs.Calls.{Call, header, segment, time, card, counted, shows}
 use Rattle.records.specs.Lines.{lines_from}
 use Rattle.records.specs.Records.{malformed, records_of}
 use Rattle.records.specs.Sent.{calls_from}

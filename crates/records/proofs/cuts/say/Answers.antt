@@ -10,4 +10,4 @@ returns-in-2-len2-up c =
 pub returns-in-3-len4-up : goal.returns-in-3-len4-up
 returns-in-3-len4-up c =
     let four : 4 ≤ length c.args.payload.now = search rules in
-    segmented c.args.payload.now c.args.kind c.pair-in-3-len4-up.result c.pair-in-3-len4-up-2.result c.pair-in-3-len4-up-3.result c.in-3-len4-up.is-0 four c.pair-in-3-len4-up.ensures c.pair-in-3-len4-up-2.ensures c.pair-in-3-len4-up-3.ensures c.pair-in-3-len4-up-3.type-inv
+    segmented c.args.payload.now c.args.kind c.pair-in-3-len4-up.result c.pair-in-3-len4-up-2.result c.pair-in-3-len4-up-3.result c.in-3-len4-up.is-0 four c.pair-in-3-len4-up.ensures c.pair-in-3-len4-up-2.ensures c.pair-in-3-len4-up-3.ensures c.pair-in-3-len4-up-3.type_inv

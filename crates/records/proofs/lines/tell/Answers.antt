@@ -5,8 +5,8 @@ use Rattle.records.specs.Records.{seen}
 use Rattle.records.proofs.Telling.{no_reply, reply_first}
 use Rattle.records.proofs.lines.tell.Goals as goal
 
-pub returns-in-default : goal.returns-in-default
-returns-in-default c =
+pub returns-in_default : goal.returns-in_default
+returns-in_default c =
     let none : length c.args.replies.now < 1 = search rules in
     no_reply c.args.number (seen c.args.said.now) (call_of c.in-Ok.field-0) (ap seen c.in-Ok.is) c.args.replies.now none
 

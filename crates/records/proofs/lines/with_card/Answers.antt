@@ -2,8 +2,8 @@ use Rattle.std.proofs.Common.{◌<◌, ◌≤◌, length, rules}
 use Rattle.records.proofs.Telling.{no_card, card_first}
 use Rattle.records.proofs.lines.with_card.Goals as goal
 
-pub returns-in-default : goal.returns-in-default
-returns-in-default c =
+pub returns-in_default : goal.returns-in_default
+returns-in_default c =
     let none : length c.args.replies.now < 1 = search rules in
     no_card c.args.number c.args.refusal c.args.replies.now none
 

@@ -10,11 +10,11 @@ loop-left-init c =
     starts c.new-all.result.items c.args.input.now c.counted-left.result.now c.new-all.ensures.items c.counted-left.ensures
 
 pub loop-left-smaller : goal.loop-left-smaller
-loop-left-smaller c = omega (arith, shorter c.loop-left.left.now c.loop-left-test.true, ap (λ p. length p.1) c.read-record.ensures)
+loop-left-smaller c = omega (arith, shorter c.loop-left.left.now c.loop-left-test.true, ap (λ p. length p.1) c.read_record.ensures)
 
 pub loop-left-preserved : goal.loop-left-preserved
 loop-left-preserved c =
-    next c.loop-left.all.items c.push.new.self.items c.read-record.result.0 (records_of c.args.input.now) c.loop-left.left.now c.read-record.result.1.now c.loop-left-test.true c.read-record.ensures (pushed (c.read-record.result.0 ∷ []) refl c.in-ok-push.was c.push.ensures.items) c.loop-left.invariant
+    next c.loop-left.all.items c.push.new.self.items c.read_record.result.0 (records_of c.args.input.now) c.loop-left.left.now c.read_record.result.1.now c.loop-left-test.true c.read_record.ensures (pushed (c.read_record.result.0 ∷ []) refl c.in_ok-push.was c.push.ensures.items) c.loop-left.invariant
 
 pub returns : goal.returns
 returns c =
