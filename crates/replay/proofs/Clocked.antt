@@ -1,5 +1,5 @@
 -- The clock moves only with time fields: it is 0 until a setting is accepted, and above 0 from then on.
-use Rattle.std.proofs.Common.{◌≡◌, ℕ, ◌+◌, ◌-◌, ◌<◌, ◌≤◌, Bool, true, false, cond, eqb, leb, List, Some, None, Ok, Err, Option, Result, sym, refl, ap, ◌∙◌, subst, arith}
+use Rattle.std.proofs.Common.{◌≡◌, ℕ, ◌-◌, ◌<◌, ◌≤◌, Bool, eqb, leb, List, Some, None, Ok, Err, Option, Result, sym, refl, ap, ◌∙◌, subst, arith}
 use Rattle.calls.specs.Plain.{call_of}
 use Rattle.calls.specs.declared.Call.{Call}
 use Rattle.calls.specs.declared.Call.TheVariants as calls
@@ -19,7 +19,7 @@ use Rattle.rules.proofs.Finds.{on_some_both, on_arriving_both}
 use Rattle.rules.proofs.Readings.{walk_clock}
 use Rattle.rules.specs.Assembly.{on_landing, segment_of, segment_step}
 use Rattle.rules.specs.Calls.{Reply, time, counted, refused}
-use Rattle.rules.specs.Clocks.{walk, on_setting, on_reading, setting_step, reading_step}
+use Rattle.rules.specs.Clocks.{on_setting, on_reading, setting_step, reading_step}
 use Rattle.rules.specs.Headers.{recategorised, slot_for, by_kind, on_header, header_step}
 use Rattle.rules.specs.Runs.{step}
 use Rattle.rules.specs.Triggers.{Verdict, nothing, effect, late, wait}

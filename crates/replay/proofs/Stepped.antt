@@ -1,5 +1,5 @@
 -- What each kind of call comes to as a step of the rules.
-use Rattle.std.proofs.Common.{◌≡◌, ℕ, ◌<◌, Bool, true, false, eqb, List, Option, Result, sym, ap, ◌∙◌, arith}
+use Rattle.std.proofs.Common.{◌≡◌, ℕ, ◌<◌, Bool, eqb, List, Option, Result, sym, ap, ◌∙◌, arith}
 use Rattle.display.specs.declared.cards.CardNumbers.{CardNumbers}
 use Rattle.header.specs.Names.{NameRecord}
 use Rattle.refusal.specs.declared.Fault.{Fault}

@@ -1,4 +1,4 @@
-use Rattle.std.proofs.Common.{◌<◌, [], ◌++◌, map, get_or, drop, vec_items, sym, ap, subst}
+use Rattle.std.proofs.Common.{◌<◌, [], ◌++◌, map, get_or, drop, vec_items, sym, subst}
 use Rattle.calls.specs.Plain.{call_of, reply_of}
 use Rattle.calls.specs.declared.Call.TheVariants.{Header}
 use Rattle.receiver.specs.Receivers.{world}
@@ -16,10 +16,10 @@ loop-i-preserved g c =
     let i = c.loop-i.i in
     let d = Header 0 (record { ref_ptr = (0, 0); now = [] }) in
     let u : World = world g.D.Display.meaning c.loop-i.receiver c.loop-i.memory in
-    let v : World = world g.D.Display.meaning c.run-one.new.receiver c.run-one.new.memory in
-    let e = c.in-ok-run-one.ensures in (
+    let v : World = world g.D.Display.meaning c.run_one.new.receiver c.run_one.new.memory in
+    let e = c.in_ok-run_one.ensures in (
       subst (λ (o : Reply × World). 0 < o.1.state.clock) (sym e) (running_on u (get_or cs i d) c.loop-i.invariant.0),
-      going_on (map reply_of (vec_items c.args.said.now) ++ replies w (map call_of (drop c.args.first cs))) (after w (map call_of (drop c.args.first cs))) (vec_items c.loop-i.said) (vec_items c.push.new.self) cs i d c.in-ok-run-one.field-0 u v c.loop-i-test.true c.in-ok-push.ensures.items e c.loop-i.invariant.1,
+      going_on (map reply_of (vec_items c.args.said.now) ++ replies w (map call_of (drop c.args.first cs))) (after w (map call_of (drop c.args.first cs))) (vec_items c.loop-i.said) (vec_items c.push.new.self) cs i d c.in_ok-run_one.field-0 u v c.loop-i-test.true c.in_ok-push.ensures.items e c.loop-i.invariant.1,
     )
 
 pub returns : goal.returns

@@ -1,4 +1,4 @@
-use Rattle.std.proofs.Common.{◌<◌, List, ◌++◌, map, drop, vec_items}
+use Rattle.std.proofs.Common.{◌<◌, ◌++◌, map, drop, vec_items}
 use Rattle.calls.specs.Plain.{call_of, reply_of}
 use Rattle.receiver.specs.Receivers.{world}
 use Rattle.replay.specs.Ends.{Going}

@@ -32,7 +32,7 @@ returns-in-Ok g c =
     let v : World = world g.D.Display.meaning c.in-Ok.started.receiver c.loop-i.memory in
     let n = c.in-Ok.started.shows in
     let e = step_setting u c.in-Time.bytes.now (counted n, v) c.loop-i.invariant.0 c.in-Ok.ensures ∙ ap (λ x. step u (call_of x)) (sym c.in-Time.is) in
-    let r = going_on (map reply_of (vec_items c.args.said.now) ++ replies w (map call_of cs)) (after w (map call_of cs)) (vec_items c.loop-i.said) (vec_items c.push.new.self) cs i d (Counted n) u v c.loop-i-test.true c.in-ok-push.ensures.items e c.loop-i.invariant.1 in
+    let r = going_on (map reply_of (vec_items c.args.said.now) ++ replies w (map call_of cs)) (after w (map call_of cs)) (vec_items c.loop-i.said) (vec_items c.push.new.self) cs i d (Counted n) u v c.loop-i-test.true c.in_ok-push-in-Ok.ensures.items e c.loop-i.invariant.1 in
     (r, started_above u c.in-Time.bytes.now n v c.in-Ok.ensures)
 
 pub loop-i-preserved : goal.loop-i-preserved
@@ -45,17 +45,17 @@ loop-i-preserved g c =
     let all = map reply_of (vec_items c.args.said.now) ++ replies w (map call_of cs) in
     let end : World = after w (map call_of cs) in
     elim c.match-call.branch [
-      | goal.in-Time+in-Err+in-ok-push-2 y ↦
+      | goal.in-Time+in-Err+in_ok-push-in-Err y ↦
           let v : World = world g.D.Display.meaning y.in-Err.unmoved.receiver c.loop-i.memory in
           let e = step_setting u y.in-Time.bytes.now (refused y.in-Err.unmoved.fault, v) c.loop-i.invariant.0 y.in-Err.ensures.0 ∙ ap (λ x. step u (call_of x)) (sym y.in-Time.is) in
           let k : v.state.clock ≡ 0 = ap (λ (x : World). x.state.clock) y.in-Err.ensures.1 ∙ c.loop-i.invariant.0 in
-          let r = going_on all end (vec_items c.loop-i.said) (vec_items y.push-in-Err.new.self) cs i d (Refused y.in-Err.unmoved.fault) u v c.loop-i-test.true y.in-ok-push-2.ensures.items e c.loop-i.invariant.1 in
+          let r = going_on all end (vec_items c.loop-i.said) (vec_items y.push-in-Err.new.self) cs i d (Refused y.in-Err.unmoved.fault) u v c.loop-i-test.true y.in_ok-push-in-Err.ensures.items e c.loop-i.invariant.1 in
           rw (y.receiver-is, y.said-is, y.memory-is) (k, r)
-      | goal.in-default+in-ok-ask+in-ok-push-3 y ↦
+      | goal.in_default+in_ok-ask+in_ok-push y ↦
           let v : World = world g.D.Display.meaning y.ask.new.receiver y.ask.new.memory in
-          let e : (reply_of y.in-ok-ask.field-0, v) ≡ step u (call_of (get_or cs i d)) = y.in-ok-ask.ensures in
-          let k : v.state.clock ≡ 0 = ap (λ (o : Reply × World). o.1.state.clock) e ∙ (other_clock u (get_or cs i d) (no_time (get_or cs i d) y.in-default.not-Time) ∙ c.loop-i.invariant.0) in
-          let r = going_on all end (vec_items c.loop-i.said) (vec_items y.push-in-default.new.self) cs i d y.in-ok-ask.field-0 u v c.loop-i-test.true y.in-ok-push-3.ensures.items e c.loop-i.invariant.1 in
+          let e : (reply_of y.in_ok-ask.field-0, v) ≡ step u (call_of (get_or cs i d)) = y.in_ok-ask.ensures in
+          let k : v.state.clock ≡ 0 = ap (λ (o : Reply × World). o.1.state.clock) e ∙ (other_clock u (get_or cs i d) (no_time (get_or cs i d) y.in_default.not-Time) ∙ c.loop-i.invariant.0) in
+          let r = going_on all end (vec_items c.loop-i.said) (vec_items y.push-in_default.new.self) cs i d y.in_ok-ask.field-0 u v c.loop-i-test.true y.in_ok-push.ensures.items e c.loop-i.invariant.1 in
           rw (y.receiver-is, y.said-is, y.memory-is) (k, r)
     ]
 

@@ -25,7 +25,7 @@ returns-in-FindName g c =
 
 pub returns-in-NextPlace : goal.returns-in-NextPlace
 returns-in-NextPlace g c =
-    step_place (world g.D.Display.meaning c.args.receiver.now c.args.memory.now) c.in-NextPlace.place c.next-place.result (c.next-place.ensures c.args.memory.now)
+    step_place (world g.D.Display.meaning c.args.receiver.now c.args.memory.now) c.in-NextPlace.place c.next_place.result (c.next_place.ensures c.args.memory.now)
     ∙ ap (λ x. step (world g.D.Display.meaning c.args.receiver.now c.args.memory.now) (call_of x)) (sym c.in-NextPlace.is)
 
 pub returns-in-Card : goal.returns-in-Card
