@@ -5,13 +5,13 @@ use Rattle.rules.specs.Runs.{opened, replies}
 use Rattle.std.proofs.lemmas.Result.{err_from_is_err_and, IfOk-weaker}
 use Rattle.trace.proofs.plays.replies_to.Goals as goal
 
-pub returns-in-err-memory : goal.returns-in-err-memory
-returns-in-err-memory c =
-    let p = err_from_is_err_and c.from-residual-in-err-memory.result c.from-residual-in-err-memory.ensures.1 in rw p.1 tt
+pub returns-in_err-memory : goal.returns-in_err-memory
+returns-in_err-memory c =
+    let p = err_from_is_err_and c.from_residual-in_err-memory.result c.from_residual-in_err-memory.ensures.1 in rw p.1 tt
 
 -- the panel is blank and the memory zeros, so the replies are those of the opening
 pub returns : goal.returns
 returns c =
-    let screen = c.new-panel.ensures.means ∙ ap (λ (n : ℕ). blank (min n 65536)) c.in-ok-vec.ensures.len in
-    let bodies = c.as-mut-slice.ensures.value ∙ c.in-ok-memory.ensures.items-if-clones-equal (λ y h. h) in
+    let screen = c.new-panel.ensures.means ∙ ap (λ (n : ℕ). blank (min n 65536)) c.in_ok-vec.ensures.len in
+    let bodies = c.as_mut_slice.ensures.value ∙ c.in_ok-memory.ensures.items_if_clones_equal (λ y h. h) in
     IfOk-weaker c.replay.result _ _ (λ x h. h.replied ∙ (λ i. replies (opened (screen i) 4096 (bodies i)) (map call_of c.args.calls.now))) c.replay.ensures

@@ -6,4 +6,4 @@ use Rattle.tracecases.proofs.tellings.write_case.Goals as goal
 
 pub returns : goal.returns
 returns c =
-    IfOk-weaker c.write-lines.result _ _ (λ x put. with_lines (vec_items c.args.text.now) (vec_items c.write-heading.new.text) (vec_items c.write-lines.new.text) (seen c.args.case) c.in-ok-write-heading.ensures put) c.write-lines.ensures
+    IfOk-weaker c.write_lines.result _ _ (λ x put. with_lines (vec_items c.args.text.now) (vec_items c.write_heading.new.text) (vec_items c.write_lines.new.text) (seen c.args.case) c.in_ok-write_heading.ensures put) c.write_lines.ensures

@@ -5,4 +5,4 @@ use Rattle.tracecases.proofs.tellings.write_heading.Goals as goal
 
 pub returns : goal.returns
 returns c =
-    headed (vec_items c.args.text.now) (vec_items c.extend-from-slice.new.self) (vec_items c.extend-from-slice-2.new.self) (vec_items c.extend-from-slice-3.new.self) c.args.name.now (pushed (35 ∷ 32 ∷ []) refl c.in-ok-extend-from-slice.was c.extend-from-slice.ensures.items) (pushed c.args.name.now refl c.in-ok-extend-from-slice-2.was c.extend-from-slice-2.ensures.items) (pushed (10 ∷ []) refl c.in-ok-extend-from-slice-3.was c.extend-from-slice-3.ensures.items)
+    headed (vec_items c.args.text.now) (vec_items c.extend_from_slice.new.self) (vec_items c.extend_from_slice-2.new.self) (vec_items c.extend_from_slice-3.new.self) c.args.name.now (pushed (35 ∷ 32 ∷ []) refl c.in_ok-extend_from_slice.was c.extend_from_slice.ensures.items) (pushed c.args.name.now refl c.in_ok-extend_from_slice-2.was c.extend_from_slice-2.ensures.items) (pushed (10 ∷ []) refl c.in_ok-extend_from_slice-3.was c.extend_from_slice-3.ensures.items)
