@@ -1,12 +1,12 @@
 -- Panel, film and the layers keep what every display owes.
-use Rattle.std.specs.Prelude.{ℕ, ◌+◌, ◌-◌, ◌/◌, ◌≤◌, List, Option, nat_le}
+use Rattle.std.specs.Prelude.{ℕ, ◌+◌, ◌-◌, ◌/◌, ◌≤◌, List, Option, length, min, nat_le}
 use Rattle.std.proofs.Common.{div-add-mod', mod-lt, mul-le-mul_right, arith}
 use Rattle.std.proofs.lemmas.Nat.{le-div}
 use Rattle.std.proofs.lemmas.Bool.{leb-true, cond_both}
-use Rattle.display.specs.Meaning.{Meaning, Keeps}
+use Rattle.display.specs.Meaning.{Meaning, Card, Keeps}
 use Rattle.display.specs.declared.cards.CardNumbers.{CardNumbers}
-use Rattle.display.specs.Frame.{panel}
-use Rattle.display.specs.Tape.{film}
+use Rattle.display.specs.Frame.{panel, panel_card}
+use Rattle.display.specs.Tape.{film, film_card}
 use Rattle.display.specs.Layering.{up, edged, delayed, edge_over, lag_over}
 
 pub up_low : (p t : ℕ) → 1 ≤ p → t ≤ up p t
@@ -49,20 +49,18 @@ lag_over_keeps m d k =
     (λ e. lag_keeps m d (leb-true _ _ e) k)
     (λ e. lag_keeps m 0 (omega (arith, k.lag_small)) k)
 
-pub panel_keeps : (xs : List ℕ) (c : Option CardNumbers) → Keeps (panel xs c)
-panel_keeps xs c = record {
-  frame_small = omega arith;
+-- a display with no lag that settles every moment to itself
+plain_keeps : (n : ℕ) (c : Option Card) → n ≤ 65536 → Keeps (record { frame = n; lag = 0; settle = λ t. t; card = c })
+plain_keeps n c h = record {
+  frame_small = h;
   lag_small = omega arith;
   not_early = λ t h. omega arith;
   within_lag = λ t h. omega arith;
   in_order = λ t u le h. le;
 }
 
+pub panel_keeps : (xs : List ℕ) (c : Option CardNumbers) → Keeps (panel xs c)
+panel_keeps xs c = plain_keeps (min (length xs) 65536) (panel_card xs c) (omega arith)
+
 pub film_keeps : (tape : List ℕ) (last : Option ℕ) → Keeps (film tape last)
-film_keeps tape last = record {
-  frame_small = omega arith;
-  lag_small = omega arith;
-  not_early = λ t h. omega arith;
-  within_lag = λ t h. omega arith;
-  in_order = λ t u le h. le;
-}
+film_keeps tape last = plain_keeps (min (length tape - 12) 65536) (film_card tape last) (omega arith)
