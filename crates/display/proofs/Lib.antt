@@ -1,3 +1,2 @@
-mod Copied
 mod Taped
 pub mod Shown

@@ -1,36 +1,13 @@
 -- An entry written on a tape is read back from its bytes.
-use Rattle.std.proofs.Common.{◌≡◌, ℕ, ◌+◌, ◌-◌, ◌*◌, ◌%◌, ◌^◌, ◌<◌, ◌≤◌, min, List, ◌++◌, length, get_or, take, drop, Some, None, Option, sym, refl, ap, ◌∙◌, mod-eq_of_lt, div-one, arith}
+use Rattle.std.proofs.Common.{◌≡◌, ℕ, ◌+◌, ◌-◌, ◌*◌, ◌%◌, ◌^◌, ◌<◌, ◌≤◌, min, List, ◌++◌, length, take, drop, Some, Option, sym, refl, ap, ◌∙◌, mod-eq_of_lt, div-one, arith}
 use lib.Pow.{high, low}
 use Rattle.packed.specs.Bits.{whole, field, bytes_of}
 use Rattle.packed.specs.Parts.{pasted}
 use Rattle.packed.proofs.Written.{whole_bytes}
 use Rattle.packed.proofs.Overwritten.{length_pasted, from_pasted, pasted_both}
-use Rattle.std.proofs.lemmas.List.{length-append, length-drop, length-take-le, take_at, drop_at, drop-drop, append_assoc, get_or-take, get_or-drop}
-use Rattle.display.specs.Meaning.{shown, numbers, Byte}
-use Rattle.display.specs.declared.cards.CardNumbers.{CardNumbers}
-use Rattle.display.specs.Tape.{accession_at, since_at, length_at, head_at, card_at, end_of, entry_bytes, film, film_card}
-
--- the body of an entry that lies within the tape has the length that the head says
-pub body_long : (tape : List ℕ) (at : ℕ) → at + 12 + length_at tape at ≤ length tape → length (take (length_at tape at) (drop (at + 12) tape)) ≡ length_at tape at
-body_long tape at h = length-take-le (length_at tape at) (drop (at + 12) tape) (simp length-drop (omega arith))
-
--- the last entry lies within the tape
-module _ (tape : List ℕ) (last : Option ℕ) (at : ℕ) (is : last ≡ Some at) (within : end_of tape last ≤ length tape) where
-  fits_at : at + 12 + length_at tape at ≤ length tape
-  fits_at = omega (arith, ap (end_of tape) is)
-
-  pub numbers_are : (r : CardNumbers) → r ≡ head_at tape at → Some r ≡ numbers (film_card tape last)
-  numbers_are r e =
-      ap Some (e ∙ (λ i. record { accession = accession_at tape at; since = since_at tape at; length = sym (body_long tape at fits_at) i }))
-      ∙ sym (ap (λ (o : Option ℕ). numbers (film_card tape o)) is)
-
-  pub byte_is : (i n b : ℕ) → n ≡ length_at tape at → i < n → b ≡ get_or tape (at + 12 + i) 0 → Byte (film_card tape last) i (Some b)
-  byte_is i n b e h d =
-      let below : i < length_at tape at = omega arith in
-      rw is (omega (arith, body_long tape at fits_at), d ∙ sym (get_or-drop (at + 12) tape i 0) ∙ sym (get_or-take (length_at tape at) (drop (at + 12) tape) i 0 below))
-
-  pub byte_none : (i n : ℕ) → n ≡ length_at tape at → n ≤ i → Byte (film_card tape last) i None
-  byte_none i n e h = rw is (omega (arith, body_long tape at fits_at))
+use Rattle.std.proofs.lemmas.List.{length-append, take_at, drop_at, drop-drop, append_assoc}
+use Rattle.display.specs.Meaning.{shown}
+use Rattle.display.specs.Tape.{accession_at, since_at, length_at, card_at, entry_bytes, film}
 
 -- head and body written one behind the other
 pub written_entry : (tape : List ℕ) (at a s : ℕ) (b f g : List ℕ) → at + 12 ≤ length tape → f ≡ bytes_of 4 a → g ≡ bytes_of 8 (s * 2 ^ 20 + length b) → pasted (pasted (pasted tape at f) (at + 4) g) (at + 12) b ≡ pasted tape at (entry_bytes a s b)

@@ -10,7 +10,7 @@ use crate::panels::Panel;
 use crate::settings::{Delay, Period};
 
 fn period_16() -> Period
-    ensures { result.apart ≡ 16 }
+    ensures { result.value ≡ 16 }
 {
     match Period::new(16) {
         Ok(p) => p,
@@ -19,7 +19,7 @@ fn period_16() -> Period
 }
 
 fn delay_10() -> Delay
-    ensures { result.late ≡ 10 }
+    ensures { result.value ≡ 10 }
 {
     match Delay::new(10) {
         Ok(d) => d,

@@ -8,7 +8,8 @@ ghost use Rattle.display.specs.Lifted.{film_keeps};
 
 use crate::cards::CardNumbers;
 use crate::copying::copy_in;
-use crate::{Display, LARGEST_FRAME, LAST_MOMENT, SHOW_REFUSED};
+use crate::plain::{admit, settled};
+use crate::{Display, LARGEST_FRAME};
 use packed::number;
 use refusal::Fault;
 
@@ -117,9 +118,7 @@ impl Display for Film {
         ensures recorded { Recorded self.old.tape.items self.old.last accession moment body.now result self.new.tape.items self.new.last }
     {
         let size = body.len();
-        if size == 0 || size > self.frame() as usize || accession == 0 || moment > LAST_MOMENT {
-            return Err(SHOW_REFUSED);
-        }
+        admit(self.frame(), accession, moment, size)?;
         let at = self.place(size);
         write_entry(&mut self.tape, at, accession, moment, body);
         self.last = Some(at);
@@ -135,31 +134,21 @@ impl Display for Film {
     }
 
     fn settle(&self, moment: u64) -> Option<u64> {
-        if moment > LAST_MOMENT {
-            None
-        } else {
-            Some(moment)
-        }
+        settled(moment)
     }
 
     fn card(&self) -> Option<CardNumbers> {
-        match self.last {
-            None => None,
-            Some(at) => Some(numbers_at(self.tape.as_slice(), at)),
-        }
+        let at = self.last?;
+        Some(numbers_at(self.tape.as_slice(), at))
     }
 
     fn byte(&self, at: usize) -> Option<u8> {
-        match self.last {
-            None => None,
-            Some(start) => {
-                let size = numbers_at(self.tape.as_slice(), start).length as usize;
-                if at < size {
-                    Some(self.tape[start + HEAD + at])
-                } else {
-                    None
-                }
-            }
+        let start = self.last?;
+        let size = numbers_at(self.tape.as_slice(), start).length as usize;
+        if at < size {
+            Some(self.tape[start + HEAD + at])
+        } else {
+            None
         }
     }
 }

@@ -10,7 +10,9 @@ pub mod edges;
 pub mod figures;
 pub mod films;
 pub mod lags;
+pub mod layers;
 pub mod panels;
+mod plain;
 pub mod settings;
 #[cfg(test)]
 mod tests;

@@ -6,7 +6,8 @@ ghost use Rattle.display.specs.Lifted.{panel_keeps};
 
 use crate::cards::CardNumbers;
 use crate::copying::copy_in;
-use crate::{Display, LARGEST_FRAME, LAST_MOMENT, SHOW_REFUSED};
+use crate::plain::{admit, settled};
+use crate::{Display, LARGEST_FRAME};
 use refusal::Fault;
 
 // A display by its frame memory. The card's body stands at the front of it.
@@ -34,9 +35,7 @@ impl Display for Panel {
 
     fn show(&mut self, accession: u32, moment: u64, body: &[u8]) -> Result<(), Fault> {
         let size = body.len();
-        if size == 0 || size > self.frame() as usize || accession == 0 || moment > LAST_MOMENT {
-            return Err(SHOW_REFUSED);
-        }
+        admit(self.frame(), accession, moment, size)?;
         copy_in(&mut self.memory, 0, body);
         self.held = Some(CardNumbers {
             accession,
@@ -55,11 +54,7 @@ impl Display for Panel {
     }
 
     fn settle(&self, moment: u64) -> Option<u64> {
-        if moment > LAST_MOMENT {
-            None
-        } else {
-            Some(moment)
-        }
+        settled(moment)
     }
 
     fn card(&self) -> Option<CardNumbers> {
@@ -67,15 +62,11 @@ impl Display for Panel {
     }
 
     fn byte(&self, at: usize) -> Option<u8> {
-        match self.held {
-            None => None,
-            Some(held) => {
-                if at < held.length as usize {
-                    Some(self.memory[at])
-                } else {
-                    None
-                }
-            }
+        let held = self.held?;
+        if at < held.length as usize {
+            Some(self.memory[at])
+        } else {
+            None
         }
     }
 }

@@ -11,53 +11,34 @@ const OUT_OF_RANGE: Fault = Fault {
     place: 0,
 };
 
-// The time between two frame edges: 1 to 1,000 milliseconds.
+// Some milliseconds, at least LEAST and at most 1,000.
 #[derive(Clone, Copy)]
-pub struct Period {
-    apart: u64,
-    ghost low: { 1 ≤ apart },
-    ghost high: { apart ≤ 1000 },
+pub struct Setting<const LEAST: u64> {
+    value: u64,
+    ghost low: { LEAST ≤ value },
+    ghost high: { value ≤ 1000 },
 }
 
-impl Period {
-    pub fn new(value: u64) -> Result<Period, Fault>
-        ensures { MatchResult result (λ p. p.apart ≡ value) (λ e. ((1 ≤ value) × (value ≤ 1000) → ⊥) × (e ≡ setting_fault)) }
-    {
-        if value == 0 || value > 1000 {
-            return Err(OUT_OF_RANGE);
-        }
-        Ok(Period { apart: value })
-    }
-
-    // The period in milliseconds.
-    pub fn value(&self) -> u64
-        ensures { (result ≡ self.now.apart) × (1 ≤ result) × (result ≤ 1000) }
-    {
-        self.apart
-    }
-}
+// The time between two frame edges: 1 to 1,000 milliseconds.
+pub type Period = Setting<1>;
 
 // The time that a cable takes: 0 to 1,000 milliseconds.
-#[derive(Clone, Copy)]
-pub struct Delay {
-    late: u64,
-    ghost high: { late ≤ 1000 },
-}
+pub type Delay = Setting<0>;
 
-impl Delay {
-    pub fn new(value: u64) -> Result<Delay, Fault>
-        ensures { MatchResult result (λ d. d.late ≡ value) (λ e. (1000 < value) × (e ≡ setting_fault)) }
+impl<const LEAST: u64> Setting<LEAST> {
+    pub fn new(value: u64) -> Result<Setting<LEAST>, Fault>
+        ensures { MatchResult result (λ s. s.value ≡ value) (λ e. ((LEAST ≤ value) × (value ≤ 1000) → ⊥) × (e ≡ setting_fault)) }
     {
-        if value > 1000 {
+        if value < LEAST || value > 1000 {
             return Err(OUT_OF_RANGE);
         }
-        Ok(Delay { late: value })
+        Ok(Setting { value })
     }
 
-    // The delay in milliseconds.
+    // The setting in milliseconds.
     pub fn value(&self) -> u64
-        ensures { (result ≡ self.now.late) × (result ≤ 1000) }
+        ensures { (result ≡ self.now.value) × (LEAST ≤ result) × (result ≤ 1000) }
     {
-        self.late
+        self.value
     }
 }

@@ -47,6 +47,11 @@ module _ (total word : ℕ) where
   abbrev pub milliseconds : ℕ
   milliseconds = field total 38 10 word
 
+-- a field by its first 32 bits, with the form that it must have and the seconds and milliseconds behind those bits
+abbrev pub time_with : ℕ → ℕ → ℕ → ℕ → Result Time Fault
+time_with w f s ms =
+    cond (validity 32 w == 0) (Ok Now) (cond (form 32 w == f) (moment_at (day 32 w) (hours 32 w) (minutes 32 w) s ms) (Err time_fault))
+
 -- a field of 32 bits: Now, or the short form with its missing parts 0
 abbrev pub short_time : ℕ → Result Time Fault
 short_time w =

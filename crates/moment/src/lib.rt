@@ -3,7 +3,7 @@
 
 ghost use Rattle.std.specs.Prelude.{◌≡◌, ℕ, ◌+◌, ◌*◌, ◌^◌, ◌<◌, ◌≤◌, MatchOption};
 ghost use Rattle.moment.specs.Days.{join_of, split_of, Joined};
-ghost use Rattle.moment.specs.Field.{time_of, short_time, long_time, moment_at};
+ghost use Rattle.moment.specs.Field.{time_of, time_with, moment_at};
 
 pub mod figures;
 #[cfg(test)]
@@ -38,39 +38,28 @@ fn moment_at(day: u64, hours: u64, minutes: u64, seconds: u64, millis: u64) -> R
     Ok(Time::At(moment))
 }
 
-// A time field of 32 bits.
-fn short(word: u64) -> Result<Time, Fault>
-    ensures { result ≡ short_time word }
+// A time field by its first 32 bits, which both forms share, and the form that it must have; seconds and milliseconds
+// stand behind those bits in the long form alone.
+fn field(head: u64, form: u64, seconds: u64, millis: u64) -> Result<Time, Fault>
+    ensures { result ≡ time_with head form seconds millis }
 {
-    if word / 0x8000_0000 % 2 == 0 {
+    if head / 0x8000_0000 % 2 == 0 {
         return Ok(Time::Now);
     }
-    if word / 0x800 % 2 != 0 {
-        return Err(BAD_TIME);
-    }
-    moment_at(word / 0x4000 % 0x2_0000, word / 64 % 32, word % 64, 0, 0)
-}
-
-// A time field of 48 bits.
-fn long(word: u64) -> Result<Time, Fault>
-    ensures { result ≡ long_time word }
-{
-    if word / 0x8000_0000_0000 % 2 == 0 {
-        return Ok(Time::Now);
-    }
-    if word / 0x800_0000 % 2 != 1 {
+    if head / 0x800 % 2 != form {
         return Err(BAD_TIME);
     }
     moment_at(
-        word / 0x4000_0000 % 0x2_0000,
-        word / 0x40_0000 % 32,
-        word / 0x1_0000 % 64,
-        word / 0x400 % 64,
-        word % 0x400,
+        head / 0x4000 % 0x2_0000,
+        head / 0x40 % 0x20,
+        head % 0x40,
+        seconds,
+        millis,
     )
 }
 
 // What a time field says; any bytes that are no time field are refused.
+#[tactic(auto, using(crate::proofs::Heads::long_by_head))]
 pub fn read_time(bytes: &[u8]) -> Result<Time, Fault>
     ensures { result ≡ time_of bytes.now }
 {
@@ -78,8 +67,8 @@ pub fn read_time(bytes: &[u8]) -> Result<Time, Fault>
         return Err(BAD_TIME);
     };
     match bytes.len() {
-        4 => short(word),
-        6 => long(word),
+        4 => field(word, 0, 0, 0),
+        6 => field(word / 0x1_0000, 1, word / 0x400 % 0x40, word % 0x400),
         _ => Err(BAD_TIME),
     }
 }

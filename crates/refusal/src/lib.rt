@@ -21,27 +21,7 @@ impl Cause {
     pub fn number(&self) -> u8
         ensures { result ≡ number_of self.now }
     {
-        match self {
-            Cause::SettingOutOfRange => 1,
-            Cause::ShowOutOfBounds => 2,
-            Cause::BodyMemoryMisfit => 3,
-            Cause::HeaderCut => 4,
-            Cause::HeaderSizeDiffers => 5,
-            Cause::NeitherImageNorUpdate => 6,
-            Cause::BodySizeMisfit => 7,
-            Cause::ParameterPastEnd => 8,
-            Cause::ParameterAgain => 9,
-            Cause::ParameterMalformed => 10,
-            Cause::NameMissing => 11,
-            Cause::UpdateWithoutEffect => 12,
-            Cause::ExpiryNotAhead => 13,
-            Cause::SlideNotHeld => 14,
-            Cause::NoSlotToUse => 15,
-            Cause::NotArriving => 16,
-            Cause::SegmentMisfit => 17,
-            Cause::ReadingBelowClock => 18,
-            Cause::RecordMalformed => 19,
-        }
+        *self as u8
     }
 }
 
@@ -50,14 +30,7 @@ impl Layer {
     pub fn number(&self) -> u8
         ensures { result ≡ layer_number self.now }
     {
-        match self {
-            Layer::TimeField => 1,
-            Layer::Header => 2,
-            Layer::Assembly => 3,
-            Layer::Receiver => 4,
-            Layer::Display => 5,
-            Layer::Trace => 6,
-        }
+        *self as u8
     }
 }
 

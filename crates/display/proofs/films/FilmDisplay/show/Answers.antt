@@ -1,6 +1,5 @@
-use Rattle.std.proofs.Common.{◌≡◌, ℕ, List, length, Some, ap, ◌∙◌, arith}
-use Rattle.packed.specs.Parts.{pasted}
-use Rattle.display.specs.Tape.{length_at, entry_bytes}
+use Rattle.std.proofs.Common.{◌≡◌, ℕ, List, length, ap, ◌∙◌, arith}
+use Rattle.display.specs.Tape.{length_at}
 use Rattle.display.proofs.Taped.{length_back, film_shown}
 use Rattle.display.proofs.films.FilmDisplay.show.Goals as goal
 
@@ -14,18 +13,9 @@ invariant_of-self c =
     ∙ length_back film.tape.items at c.args.accession c.args.moment b (omega (arith, c.place-at.ensures.fits, film.tape.ok.0)) (omega arith) (omega arith) (omega arith) in
     record { within = omega (arith, long, c.place-at.ensures.fits, c.write_entry.ensures.len) }
 
-pub returns : goal.returns
-returns c =
-    let film = c.args.self.now in
-    let at = c.place-at.result in
-    let b = c.args.body.now in
-    record {
-      shows = (
-        (omega arith, omega (arith, film.tape.ok.0), omega arith, omega arith),
-        film_shown film.tape.items at c.args.accession c.args.moment b (omega (arith, c.place-at.ensures.fits, film.tape.ok.0)) (omega arith) (omega arith) (omega arith) _ film.last c.write_entry.ensures.items,
-      );
-      recorded = (
-        c.write_entry.ensures.items ∙ ap (λ (i : ℕ). pasted film.tape.items i (entry_bytes c.args.accession c.args.moment b)) c.place-at.ensures.value,
-        ap Some c.place-at.ensures.value,
-      );
-    }
+pub returns-clause-shows : goal.returns-clause-shows
+returns-clause-shows c =
+    let film = c.args.self.now in (
+      (omega arith, omega (arith, film.tape.ok.0), omega arith, omega arith),
+      film_shown film.tape.items c.place-at.result c.args.accession c.args.moment c.args.body.now (omega (arith, c.place-at.ensures.fits, film.tape.ok.0)) (omega arith) (omega arith) (omega arith) _ film.last c.write_entry.ensures.items,
+    )
