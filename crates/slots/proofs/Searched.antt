@@ -1,32 +1,23 @@
 -- Searches among slots, step by step, and what they find.
-use Rattle.std.proofs.Common.{◌≡◌, ℕ, suc, ◌+◌, ◌-◌, ◌<◌, ◌≤◌, Bool, true, false, cond, List, map, length, get_or, drop, Some, None, Option, sym, ap, ◌∙◌, add-one, arith}
-use Rattle.std.proofs.lemmas.List.{drop_more, drop_all, get_or-map}
+use Rattle.std.proofs.Common.{◌≡◌, ℕ, suc, ◌+◌, ◌-◌, ◌<◌, ◌≤◌, Bool, true, false, cond, List, [], ◌∷◌, refl, map, length, get_or, Some, None, ap, ◌∙◌, add-one, arith}
+use Rattle.std.proofs.lemmas.List.{get_or-map}
 use Rattle.std.proofs.lemmas.Bool.{cond-true, cond-false}
-use Rattle.slots.specs.Searches.{first_from, free_from, next}
+use Rattle.std.proofs.lemmas.Iterator.Adapters.{position_from-zero}
+use Rattle.std.specs.List.{position, position_from}
+use Rattle.slots.specs.Searches.{first_from, first_slot, free_from, next}
 use Rattle.slots.specs.Slides.{Slot, free, is_free}
+
+-- the library's search of slots that are seen through a function
+found_from : {A : Type 0} (see : A → Slot) (test : Slot → Bool) (k : ℕ) (xs : List A) → position_from (λ x. test (see x)) k xs ≡ first_from test k (map see xs)
+found_from see test k [] = refl
+found_from see test k (x ∷ xs) =
+    ap (cond (test (see x)) (Some k)) (found_from see test (k + 1) xs ∙ ap (λ (i : ℕ). first_from test i (map see xs)) (add-one k))
+
+pub position_found : {A : Type 0} (see : A → Slot) (test : Slot → Bool) (xs : List A) → position (λ x. test (see x)) xs ≡ first_slot test (map see xs)
+position_found see test xs = position_from-zero (λ x. test (see x)) xs ∙ found_from see test 0 xs
 
 -- slots that are seen through a function
 module _ {A : Type 0} (see : A → Slot) (xs : List A) where
-  module _ (test : Slot → Bool) (k : ℕ) where
-    -- the search from k on
-    abbrev pub from_here : Option ℕ
-    from_here = first_from test k (map see (drop k xs))
-
-    module _ (d : A) (there : k < length xs) where
-      step : from_here ≡ cond (test (see (get_or xs k d))) (Some k) (first_from test (k + 1) (map see (drop (k + 1) xs)))
-      step =
-          ap (λ (ys : List A). first_from test k (map see ys)) (drop_more xs k d there)
-          ∙ ap (λ (i : ℕ). cond (test (see (get_or xs k d))) (Some k) (first_from test i (map see (drop (k + 1) xs)))) (sym (add-one k))
-
-      pub found_here : test (see (get_or xs k d)) ≡ true → from_here ≡ Some k
-      found_here h = step ∙ cond-true (test (see (get_or xs k d))) (Some k) _ h
-
-      pub found_later : test (see (get_or xs k d)) ≡ false → from_here ≡ first_from test (k + 1) (map see (drop (k + 1) xs))
-      found_later h = step ∙ cond-false (test (see (get_or xs k d))) (Some k) _ h
-
-    pub found_none : length xs ≤ k → from_here ≡ None
-    found_none h = ap (λ (ys : List A). first_from test k (map see ys)) (drop_all k xs h)
-
   -- going round
   module _ (n i k : ℕ) (d : A) (there : k < length xs) (more : i < n) where
     turn : free_from (map see xs) (n - i) k ≡ cond (is_free (see (get_or xs k d))) (Some k) (free_from (map see xs) (n - (i + 1)) (next k))

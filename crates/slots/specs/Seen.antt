@@ -1,9 +1,11 @@
 -- The records of the code, by what they hold. A free slot's name is not part of that.
-use Rattle.std.specs.Prelude.{List, map}
+use Rattle.std.specs.Prelude.{ℕ, List, map, Option}
+use Rattle.std.specs.Option.{option_map}
 use Rattle.header.specs.Kept.{name_of}
 use Rattle.header.specs.Names.{NameRecord}
 use Rattle.slots.specs.Slides as slides
 use Rattle.slots.specs.Slides.{Object, Slide, free, arriving, held}
+use Rattle.slots.specs.declared.indices.SlotIndex.{SlotIndex}
 use Rattle.slots.specs.declared.records.Arrival.{Arrival}
 use Rattle.slots.specs.declared.records.Event.{Event}
 use Rattle.slots.specs.declared.records.Event.TheVariants.{Header, Segment, Expiry, Clearing}
@@ -44,3 +46,7 @@ label s = name_of s.name
 
 abbrev pub all_names : Slots → List NameRecord
 all_names s = map label s.records
+
+-- which slot is meant, as a number
+abbrev pub index_of : Option SlotIndex → Option ℕ
+index_of o = option_map (λ k. k.index) o

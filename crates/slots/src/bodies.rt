@@ -15,18 +15,26 @@ pub struct Sent<'a> {
     pub bytes: &'a [u8],
 }
 
+// What a segment is, but for its bytes.
+impl From<Sent<'_>> for Segment {
+    ghost from_gives = { λ s r. r ≡ segment_of (sent_of s) };
+
+    fn from(sent: Sent<'_>) -> Segment {
+        Segment {
+            number: sent.number,
+            last: sent.last,
+            length: sent.bytes.len(),
+        }
+    }
+}
+
 // Takes a segment, and lays it down in the memory of the body, which begins at `base`.
 fn receive(progress: &mut Progress, memory: &mut [u8], base: usize, sent: &Sent<'_>)
     requires { base + progress.old.size ≤ length memory.old }
     ensures progress { progress.new ≡ after_segment progress.old (segment_of (sent_of sent.now)) }
     ensures memory { memory.new ≡ memory_with (landing progress.old (segment_of (sent_of sent.now))) base (sent_of sent.now).bytes memory.old }
 {
-    let segment = Segment {
-        number: sent.number,
-        last: sent.last,
-        length: sent.bytes.len(),
-    };
-    if let Landing::At(offset) = progress.take(segment) {
+    if let Landing::At(offset) = progress.take(Segment::from(*sent)) {
         let _ = paste(memory, base + offset, sent.bytes);
     }
 }

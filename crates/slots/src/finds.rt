@@ -1,8 +1,11 @@
 // Finding slots, and clearing those that pass a test.
-ghost use Rattle.std.specs.Prelude.{◌≡◌, ◌<◌, map, length, IfSome, if◌then◌else◌, None, nat_lt};
+ghost use Rattle.std.specs.Prelude.{◌≡◌, ◌<◌, map, length, IfSome, if◌then◌else◌, None, nat_lt, slice_index_or};
 ghost use Rattle.slots.specs.Searches.{first_slot, next, free_from, first_free, vacated};
-ghost use Rattle.slots.specs.Seen.{seen, label, all_seen, all_names};
+ghost use Rattle.slots.specs.Seen.{seen, label, all_seen, all_names, index_of};
+ghost use Rattle.slots.specs.Slides.{free};
+ghost use Rattle.header.specs.Kept.{no_name};
 
+use crate::indices::SlotIndex;
 use crate::records::{Event, Slot, Slots};
 use crate::sought::{Free, SlotTest};
 
@@ -11,12 +14,7 @@ pub fn find<T: SlotTest>(records: &[Slot], test: &T) -> Option<usize>
     ensures value { result ≡ first_slot (T.SlotTest.test test.now) (map seen records.now) }
     ensures within { IfSome result (λ k. k < length records.now) }
 {
-    for (k, slot) in records.iter().enumerate() {
-        if test.passes(slot) {
-            return Some(k);
-        }
-    }
-    None
+    records.iter().position(|slot| test.passes(slot))
 }
 
 // The slot behind slot k, going round.
@@ -28,7 +26,8 @@ fn next(k: usize) -> usize
     if k == 11 { 0 } else { k + 1 }
 }
 
-// The first free one among n of these slots, from slot k on, going round.
+// The first free one among n of these slots, from slot k on, going round. A chain over two parts of the slots, or over
+// remainders, would be no plainer than the step that the rule itself is told by.
 fn free_from(records: &[Slot], n: usize, k: usize) -> Option<usize>
     requires twelve { length records.now ≡ 12 }
     requires within { k < 12 }
@@ -58,16 +57,30 @@ fn clear_all<T: SlotTest>(records: &mut [Slot], test: &T)
 }
 
 impl Slots {
+    // The first slot that passes the test.
+    pub fn find<T: SlotTest>(&self, test: &T) -> Option<SlotIndex>
+        ensures { index_of result ≡ first_slot (T.SlotTest.test test.now) (all_seen self.now) }
+    {
+        SlotIndex::new(find(&self.records, test)?)
+    }
+
+    // Slot k.
+    pub fn at(&self, k: SlotIndex) -> &Slot
+        ensures seen { seen result.now ≡ slice_index_or (all_seen self.now) k.index free }
+        ensures name { label result.now ≡ slice_index_or (all_names self.now) k.index no_name }
+    {
+        &self.records[k.get()]
+    }
+
     // The first free slot behind slot `recent`, which was given last, going round and ending with that one; none where
     // no slot is free, or where there is no slot `recent`.
-    pub fn first_free(&self, recent: usize) -> Option<usize>
-        ensures value { result ≡ (if nat_lt recent 12 then first_free (all_seen self.now) recent else None) }
-        ensures within { IfSome result (λ k. k < 12) }
+    pub fn first_free(&self, recent: usize) -> Option<SlotIndex>
+        ensures { index_of result ≡ (if nat_lt recent 12 then first_free (all_seen self.now) recent else None) }
     {
         if recent >= 12 {
             return None;
         }
-        free_from(&self.records, 12, next(recent))
+        SlotIndex::new(free_from(&self.records, 12, next(recent))?)
     }
 
     // Clears every slot that passes the test.

@@ -23,18 +23,6 @@ pub fn real_category(category: Option<Category>) -> Option<Category>
     }
 }
 
-fn same_time(a: Option<Time>, b: Option<Time>) -> bool
-    ensures { result ≡ same_time a b }
-{
-    a == b
-}
-
-fn same_category(a: Option<Category>, b: Option<Category>) -> bool
-    ensures { result ≡ same_category a b }
-{
-    a == b
-}
-
 impl Arrival {
     // An object of which nothing has come yet, as its header announces it.
     pub fn new(transport: u16, number: u32, header: &Header<'_>) -> Arrival
@@ -61,9 +49,9 @@ impl Arrival {
             && self.subtype == header.subtype
             && name.is(header.name.charset, header.name.bytes)
             && self.version == header.version.unwrap_or(0)
-            && same_time(self.expire, header.expire)
-            && same_time(self.trigger, header.trigger)
-            && same_category(self.category, real_category(header.category))
+            && self.expire == header.expire
+            && self.trigger == header.trigger
+            && self.category == real_category(header.category)
     }
 }
 

@@ -5,6 +5,7 @@ pub mod bodies;
 pub mod figures;
 pub mod finds;
 pub mod images;
+pub mod indices;
 pub mod moves;
 pub mod progress;
 pub mod questions;

@@ -3,7 +3,7 @@ ghost use Rattle.std.specs.Prelude.{◌≡◌, map, replicate, slice_index_or, s
 ghost use Rattle.header.specs.Kept.{name_of, no_name};
 ghost use Rattle.header.specs.Names.{NameRecord};
 ghost use Rattle.slots.specs.Seen.{seen, state_of, event_of, object_of, slide_in, label, all_seen, all_names};
-ghost use Rattle.slots.specs.Slides.{passed, moved, free, arriving, held};
+ghost use Rattle.slots.specs.Slides.{passed, ends, moved, free, arriving};
 ghost use Rattle.slots.specs.Slides as slides;
 
 use crate::progress::Segment;
@@ -19,6 +19,19 @@ pub fn passed(moment: u64, expire: Option<Time>) -> bool
         None => false,
         Some(Time::Now) => true,
         Some(Time::At(end)) => end <= moment,
+    }
+}
+
+impl State {
+    // Whether what is in the slot has expired by a moment.
+    pub fn ends_by(&self, moment: u64) -> bool
+        ensures { (n : NameRecord) → result ≡ ends moment (state_of self.now n) }
+    {
+        match self {
+            State::Free => false,
+            State::Arriving(arrival) => passed(moment, arrival.expire),
+            State::Held(holding) => passed(moment, holding.expire),
+        }
     }
 }
 
@@ -39,30 +52,6 @@ impl Arrival {
             size: arrival.progress.size,
         })
     }
-
-    // The object, unless it has expired.
-    fn until(self, moment: u64) -> State
-        ensures { (n : NameRecord) → state_of result n ≡ moved (slides.expiry moment) (arriving (object_of self n)) }
-    {
-        if passed(moment, self.expire) {
-            State::Free
-        } else {
-            State::Arriving(self)
-        }
-    }
-}
-
-impl Holding {
-    // The slide, unless it has expired.
-    fn until(self, moment: u64) -> State
-        ensures { (n : NameRecord) → state_of result n ≡ moved (slides.expiry moment) (held (slide_in self n)) }
-    {
-        if passed(moment, self.expire) {
-            State::Free
-        } else {
-            State::Held(self)
-        }
-    }
 }
 
 impl Slot {
@@ -74,8 +63,7 @@ impl Slot {
         self.state = match (self.state, event) {
             (_, Event::Header(arrival)) => State::Arriving(arrival),
             (State::Arriving(arrival), Event::Segment(segment)) => arrival.with(segment),
-            (State::Arriving(arrival), Event::Expiry(moment)) => arrival.until(moment),
-            (State::Held(holding), Event::Expiry(moment)) => holding.until(moment),
+            (state, Event::Expiry(moment)) if state.ends_by(moment) => State::Free,
             (_, Event::Clearing) => State::Free,
             (state, _) => state,
         };
@@ -88,26 +76,6 @@ impl Slot {
     {
         self.name = name;
         self.on(Event::Header(arrival));
-    }
-}
-
-// Moves slot k of these by its present state; past the end nothing changes.
-fn move_one(records: &mut [Slot], k: usize, event: Event)
-    ensures seen { map seen records.new ≡ slice_set (map seen records.old) k (moved (event_of event (slice_index_or (map label records.old) k no_name)) (slice_index_or (map seen records.old) k free)) }
-    ensures names { map label records.new ≡ map label records.old }
-{
-    if k < records.len() {
-        records[k].on(event);
-    }
-}
-
-// A header takes slot k of these; past the end nothing changes.
-fn take_one(records: &mut [Slot], k: usize, arrival: Arrival, name: Name)
-    ensures seen { map seen records.new ≡ slice_set (map seen records.old) k (moved (slides.header (object_of arrival (name_of name))) (slice_index_or (map seen records.old) k free)) }
-    ensures names { map label records.new ≡ slice_set (map label records.old) k (name_of name) }
-{
-    if k < records.len() {
-        records[k].take(arrival, name);
     }
 }
 
@@ -131,14 +99,21 @@ impl Slots {
         ensures seen { all_seen self.new ≡ slice_set (all_seen self.old) k (moved (event_of event (slice_index_or (all_names self.old) k no_name)) (slice_index_or (all_seen self.old) k free)) }
         ensures names { all_names self.new ≡ all_names self.old }
     {
-        move_one(&mut self.records, k, event);
+        let slots = &mut self.records;
+        if k < slots.len() {
+            slots[k].on(event);
+        }
     }
 
     // A header takes slot k for its object, whose name this is; past the end nothing changes.
+    #[tactic(auto, using(crate::proofs::Changed::write_map))]
     pub fn take(&mut self, k: usize, arrival: Arrival, name: Name)
         ensures seen { all_seen self.new ≡ slice_set (all_seen self.old) k (moved (slides.header (object_of arrival (name_of name))) (slice_index_or (all_seen self.old) k free)) }
         ensures names { all_names self.new ≡ slice_set (all_names self.old) k (name_of name) }
     {
-        take_one(&mut self.records, k, arrival, name);
+        let slots = &mut self.records;
+        if k < slots.len() {
+            slots[k].take(arrival, name);
+        }
     }
 }

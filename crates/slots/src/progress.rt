@@ -1,7 +1,7 @@
 // How far an arriving object has come.
 
 // An object's body and what has come of it so far: its size, the piece size once that is known, the number of the last
-// segment once that has come, and the numbers taken, one bit each.
+// segment once that has come, and the numbers taken, one bit each: a set that needs no heap.
 #[derive(Clone, Copy)]
 pub struct Progress {
     pub size: u32,
@@ -18,7 +18,7 @@ pub struct Segment {
     pub length: usize,
 }
 
-// Where a segment goes.
+// Where a segment goes. A Result would be no plainer: a number that was taken before is an answer of its own, and no error.
 #[derive(Clone, Copy, PartialEq, Eq, Debug)]
 pub enum Landing {
     // nowhere: it does not fit its object

@@ -28,7 +28,7 @@ impl Slot {
         }
     }
 
-    // The accession number in it, 0 where it is free.
+    // The accession number in it, 0 where it is free: numbers begin at 1, and the rules take it as a number everywhere.
     pub fn number(&self) -> u32
         ensures { result ≡ number_in (seen self.now) }
     {
@@ -39,7 +39,7 @@ impl Slot {
         }
     }
 
-    // How long the body is that it holds, 0 where it holds none.
+    // How long the body is that it holds, 0 where it holds none: a length, as the rules take it.
     pub fn body_size(&self) -> u32
         ensures { result ≡ size_in (seen self.now) }
     {

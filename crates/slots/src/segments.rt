@@ -1,7 +1,7 @@
 // What a segment does to an arriving object.
 ghost use Rattle.std.specs.Prelude.{◌≡◌, ◌<◌, true};
 ghost use Rattle.slots.specs.Slides.{fresh};
-ghost use Rattle.slots.specs.Segments.{has, agrees, inner_fits, last_fits, fits, landing, grown, after_segment, complete};
+ghost use Rattle.slots.specs.Segments.{has, agrees, inner_fits, last_fits, fits, landing, grown, after_segment, covers, complete};
 
 use crate::progress::{Landing, Progress, Segment};
 
@@ -19,6 +19,7 @@ impl Progress {
     }
 
     // Whether the number is among those taken.
+    #[tactic(auto, using(crate::proofs::Numbers::has_past))]
     fn has(&self, number: u16) -> bool
         ensures { result ≡ has number self.now.taken }
     {
@@ -123,20 +124,26 @@ impl Progress {
         landing
     }
 
+    // Whether all numbers below n are among those taken.
+    #[tactic(auto, using(crate::proofs::Numbers::covers_not))]
+    fn covers(&self, n: u16) -> bool
+        ensures { result ≡ covers n self.now.taken }
+    {
+        for number in 0..n {
+            if !self.has(number) {
+                return false;
+            }
+        }
+        true
+    }
+
     // Whether the last segment and all before it have come.
     pub fn is_complete(&self) -> bool
         ensures { result ≡ complete self.now }
     {
         match self.last {
             None => false,
-            Some(last) => {
-                for number in 0..last {
-                    if !self.has(number) {
-                        return false;
-                    }
-                }
-                true
-            }
+            Some(last) => self.covers(last),
         }
     }
 }

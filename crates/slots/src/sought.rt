@@ -5,11 +5,11 @@ ghost use Rattle.slots.specs.Seen.{seen};
 ghost use Rattle.slots.specs.Slides as slides;
 ghost use Rattle.slots.specs.Slides.{is_free, ends, comes, named, versioned, numbered};
 
-use crate::moves::passed;
 use crate::records::{Slot, State};
 use header::kinds::Label;
 
-// A test that a slot passes or not, by what is seen of it.
+// A test that a slot passes or not, by what is seen of it. A trait and no closure: a public function that calls a closure
+// has to require that it may be called, and those here require nothing.
 pub trait SlotTest {
     ghost test: { Self → slides.Slot → Bool };
 
@@ -25,10 +25,7 @@ impl SlotTest for Free {
     ghost test = { λ _ x. is_free x };
 
     fn passes(&self, slot: &Slot) -> bool {
-        match slot.state {
-            State::Free => true,
-            _ => false,
-        }
+        matches!(slot.state, State::Free)
     }
 }
 
@@ -55,11 +52,7 @@ impl SlotTest for Ending {
     ghost test = { λ t x. ends t.0 x };
 
     fn passes(&self, slot: &Slot) -> bool {
-        match slot.state {
-            State::Free => false,
-            State::Arriving(arrival) => passed(self.0, arrival.expire),
-            State::Held(holding) => passed(self.0, holding.expire),
-        }
+        slot.state.ends_by(self.0)
     }
 }
 

@@ -2,6 +2,7 @@
 use crate::bodies::{Sent, assemble};
 use crate::finds::find;
 use crate::images::ComesAgain;
+use crate::indices::SlotIndex;
 use crate::progress::{Landing, Progress, Segment};
 use crate::records::{Arrival, Event, Slots};
 use crate::sought::{Arriving, Ending, Named, Numbered};
@@ -106,9 +107,9 @@ fn a_slide_comes_and_goes(rt: HostRuntime) -> Result<(), Fail> {
         header,
     };
     let mut slots = Slots::new();
-    assert_eq!(rt; slots.first_free(11), Some(0));
+    assert_eq!(rt; slots.first_free(11).map(SlotIndex::get), Some(0));
     slots.take(4, Arrival::new(7, 1, &header), name);
-    assert_eq!(rt; slots.first_free(3), Some(5));
+    assert_eq!(rt; slots.first_free(3).map(SlotIndex::get), Some(5));
     assert_eq!(rt; find(&slots.records, &Arriving(7)), Some(4));
     assert_eq!(rt; find(&slots.records, &again), Some(4));
     assert_eq!(rt; find(&slots.records, &Named(header.name)), None);

@@ -1,28 +1,16 @@
-use Rattle.std.proofs.Common.{◌≡◌, ℕ, ◌+◌, ◌<◌, ◌≤◌, false, cond, leb, List, [], length, get_or, take, Some, None, sym, ap, ◌∙◌, arith}
-use Rattle.std.proofs.lemmas.Bool.{le-leb, lt-leb, cond-true, cond-false}
+use Rattle.std.proofs.Common.{◌≡◌, ℕ, ◌+◌, ◌≤◌, false, List, [], length, get_or, take, sym, ap, ◌∙◌, arith}
 use Rattle.slots.specs.Bodies.{assembled, sent_of}
 use Rattle.slots.specs.Pieces as pieces
 use Rattle.slots.specs.Pieces.{Receipt, received, segment_of, memory_with}
 use Rattle.slots.specs.Segments.{landing, after_segment}
 use Rattle.slots.specs.declared.bodies.Sent.{Sent}
 use Rattle.slots.specs.declared.progress.Progress.{Progress}
-use Rattle.slots.proofs.Assembled.{assembled_none, assembled_more, assembled_all, assembled_stands}
+use Rattle.slots.proofs.Assembled.{assembled_none, assembled_more, assembled_stands}
 use Rattle.slots.proofs.Laid.{pieces_law, Stands}
 use Rattle.slots.proofs.bodies.assemble.Goals as goal
-use Rattle.slots.proofs.bodies.assemble.Goals.{then-base-room-via-then-base-room, then-base-room-via-else-base-room+then-size-room}
 
--- where the memory has no room
-without : (base B : ℕ) (m : List ℕ) (r : Receipt) → length m < base + B → (None ≡ cond (leb (base + B) (length m)) (Some r.progress) None) × (m ≡ cond (leb (base + B) (length m)) r.memory m)
-without base B m r h =
-    let no = lt-leb (base + B) (length m) h in
-    (sym (cond-false (leb (base + B) (length m)) (Some r.progress) None no), sym (cond-false (leb (base + B) (length m)) r.memory m no))
-
-pub returns-then-base-room : goal.returns-then-base-room
-returns-then-base-room c =
-    let m = c.args.memory.now in
-    let few : length m < c.args.base + c.args.size = elim c.then-base-room.branch [ then-base-room-via-then-base-room w ↦ omega arith | then-base-room-via-else-base-room+then-size-room w ↦ omega arith ] in
-    let t = without c.args.base c.args.size m (assembled c.args.base c.args.size m c.args.sent.now) few in
-    record { answer = t.0; after = t.1; law = pieces_law }
+pub returns-then-base-room-clause-law : goal.returns-then-base-room-clause-law
+returns-then-base-room-clause-law c = pieces_law
 
 pub loop-segment-init : goal.loop-segment-init
 loop-segment-init c =
@@ -58,16 +46,5 @@ receive-requires c =
     let s : Stands c.args.base c.args.size m (assembled c.args.base c.args.size m (take c.loop-segment.segment-index c.args.sent.now)) = assembled_stands c.args.base c.args.size m (take c.loop-segment.segment-index c.args.sent.now) room in
     omega (arith, ap (λ (p : Progress). p.size) c.loop-segment.invariant.0, s.size, c.loop-segment.auto.memory)
 
-pub returns : goal.returns
-returns c =
-    let m = c.args.memory.now in
-    let base = c.args.base in
-    let size = c.args.size in
-    let r = assembled base size m c.args.sent.now in
-    let yes' = le-leb (base + size) (length m) (omega arith) in
-    let e = assembled_all base size m c.args.sent.now c.loop-segment.segment-index c.loop-segment-test.false in
-    record {
-      answer = ap Some (c.loop-segment.invariant.0 ∙ ap (λ (x : Receipt). x.progress) e) ∙ sym (cond-true (leb (base + size) (length m)) (Some r.progress) None yes');
-      after = c.loop-segment.invariant.1 ∙ ap (λ (x : Receipt). x.memory) e ∙ sym (cond-true (leb (base + size) (length m)) r.memory m yes');
-      law = pieces_law;
-    }
+pub returns-clause-law : goal.returns-clause-law
+returns-clause-law c = pieces_law

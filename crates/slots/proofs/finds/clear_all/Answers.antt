@@ -7,18 +7,9 @@ use Rattle.slots.specs.Slides as slides
 use Rattle.slots.specs.Slides.{free}
 use Rattle.slots.specs.declared.records.Slot.{Slot}
 use Rattle.slots.proofs.Changed.{same_map}
-use Rattle.slots.proofs.Vacated.{upto, upto_more, upto_all}
+use Rattle.slots.proofs.Vacated.{upto, upto_more}
 use Rattle.slots.proofs.finds.clear_all.Goals as goal
 use Rattle.slots.proofs.finds.clear_all.Goals.{then-passes, else-passes}
-
-pub returns : goal.returns
-returns g c =
-    let test = g.T.SlotTest.test c.args.test.now in
-    let xs = map seen c.args.records.now in
-    record {
-      seen = c.loop-slot.invariant.0 ∙ upto_all test xs c.loop-slot.slot-index (omega (arith, length-map c.args.records.now seen));
-      names = c.loop-slot.invariant.1;
-    }
 
 -- a slot that is cleared, or left, as the test says
 one_more : (test : slides.Slot → Bool) (first rs new : List Slot) (i : ℕ) (d y : Slot) → i < length first → length rs ≡ length first → (map seen rs ≡ upto test (map seen first) i) × (map label rs ≡ map label first) → new ≡ set rs i y → seen y ≡ cond (test (seen (get_or rs i d))) free (seen (get_or rs i d)) → y.name ≡ (get_or rs i d).name → (map seen new ≡ upto test (map seen first) (i + 1)) × (map label new ≡ map label first)

@@ -3,7 +3,7 @@ use Rattle.slots.specs.Searches.{free_from}
 use Rattle.slots.specs.Seen.{seen}
 use Rattle.slots.specs.Slides.{is_free}
 use Rattle.slots.specs.declared.records.Slot.{Slot}
-use Rattle.slots.proofs.Searched.{free_here, free_later, free_none}
+use Rattle.slots.proofs.Searched.{free_here, free_later}
 use Rattle.slots.proofs.finds.free_from.Goals as goal
 
 pub returns-then-passes : goal.returns-then-passes
@@ -14,13 +14,6 @@ returns-then-passes c =
     record {
       value = sym (free_here seen xs c.args.n c.loop-tried._tried c.loop-tried.at c.index-records-at.result there c.loop-tried-test.true passed) ∙ c.loop-tried.invariant.1;
       within = c.loop-tried.invariant.0;
-    }
-
-pub returns : goal.returns
-returns c =
-    record {
-      value = sym (free_none seen c.args.records.now c.args.n c.loop-tried._tried c.loop-tried.at c.loop-tried-test.false) ∙ c.loop-tried.invariant.1;
-      within = tt;
     }
 
 pub loop-tried-preserved : goal.loop-tried-preserved
