@@ -1,5 +1,5 @@
 -- What of a shelf passes a test, and what of it a key reaches.
-use Rattle.std.proofs.Common.{◌≡◌, ℕ, suc, Bool, true, false, cond, not, List, [], ◌∷◌, take, drop, filter, Ordering, sym, refl, ap, ◌∙◌}
+use Rattle.std.proofs.Common.{◌≡◌, ℕ, Bool, true, false, cond, not, List, [], ◌∷◌, take, drop, filter, Ordering, sym, refl, ap, ◌∙◌}
 use Rattle.std.proofs.ByRecursion.{all_kept_by, All-weaker}
 use Rattle.std.proofs.lemmas.Bool.{cond_both, cond-true, cond-false, not_from_true, not_from_false, eqb-true}
 use Rattle.std.specs.Cmp.{IsTotalOrder}
@@ -10,6 +10,7 @@ use Rattle.shelf.specs.Searches.{without_that}
 use Rattle.shelf.proofs.Firsts.{all_without, kept_all, kept_none}
 use Rattle.shelf.proofs.Found.{none_passes}
 use Rattle.shelf.proofs.Ordered.{all_above}
+use Rattle.shelf.proofs.Steps.{place_both}
 
 -- ---- any comparison
 
@@ -84,7 +85,7 @@ module _ {K : Type 0} {R : K → K → Ordering} (o : IsTotalOrder R) where
   reached_kept k [] up = refl
   reached_kept k (x ∷ xs) up =
       let under : Entry K → Bool = λ y. not (above R k y) in
-      cond_both (above R k x) 0 (suc (place_of R k xs)) (λ n. take n (x ∷ xs) ≡ filter under (x ∷ xs))
+      place_both (above R k) x xs (λ n. take n (x ∷ xs) ≡ filter under (x ∷ xs))
       (λ t. sym (kept_none under (x ∷ xs) (All-weaker (λ y. above R k y ≡ true) (λ y. under y ≡ false) (λ y. not_from_true (above R k y)) (x ∷ xs) (all_above o k x xs t up))))
       (λ t.
       ap (λ (l : List (Entry K)). x ∷ l) (reached_kept k xs up.1)
@@ -93,6 +94,6 @@ module _ {K : Type 0} {R : K → K → Ordering} (o : IsTotalOrder R) where
   pub beyond_kept : (k : K) (xs : List (Entry K)) → Ascending R xs → drop (place_of R k xs) xs ≡ filter (above R k) xs
   beyond_kept k [] up = refl
   beyond_kept k (x ∷ xs) up =
-      cond_both (above R k x) 0 (suc (place_of R k xs)) (λ n. drop n (x ∷ xs) ≡ filter (above R k) (x ∷ xs))
+      place_both (above R k) x xs (λ n. drop n (x ∷ xs) ≡ filter (above R k) (x ∷ xs))
       (λ t. sym (kept_all (above R k) (x ∷ xs) (all_above o k x xs t up)))
       (λ t. beyond_kept k xs up.1 ∙ sym (cond-false (above R k x) (x ∷ filter (above R k) xs) (filter (above R k) xs) t))

@@ -3,56 +3,56 @@ use Rattle.std.proofs.Common.{◌≡◌, ℕ, ◌+◌, Bool, true, false, cond, 
 use Rattle.std.proofs.ByRecursion.{all-has, all_has_itself, All-weaker}
 use Rattle.std.proofs.lemmas.Bool.{cond_both, cond-true, cond-false, cases_Bool, true≢false, eqb-true, eqb-false, ne_eqb, eq-eqb}
 use Rattle.std.specs.Ordering.{is_gt}
-use Rattle.std.specs.List.{ContainsAt, AllByRecursion}
+use Rattle.std.specs.List.{ContainsAt, find, AllByRecursion}
 use Rattle.shelf.specs.declared.entries.Entry.{Entry}
 use Rattle.shelf.specs.Laws.{Apart}
 use Rattle.shelf.specs.Places.{above, carries, found, without, shelved}
-use Rattle.shelf.specs.Searches.{first_that, without_that, NonePasses}
+use Rattle.shelf.specs.Searches.{without_that, NonePasses}
 use Rattle.shelf.proofs.Firsts.{all_without}
 use Rattle.shelf.proofs.Ordered.{all_shelved}
 
 -- ---- by a test
 
 module _ {X : Type 0} (test : X → Bool) where
-  none_here : (x : X) (xs : List X) → first_that test (x ∷ xs) ≡ None → (test x ≡ false) × (first_that test xs ≡ None)
+  none_here : (x : X) (xs : List X) → find test (x ∷ xs) ≡ None → (test x ≡ false) × (find test xs ≡ None)
   none_here x xs h =
       ⊎_elim
-      (λ e. let z : ◌≡◌ {A = ℕ} 0 1 = let s = sym (cond-true (test x) (Some x) (first_that test xs) e) ∙ h in cc in absurd (omega arith))
-      (λ e. (e, sym (cond-false (test x) (Some x) (first_that test xs) e) ∙ h))
+      (λ e. let z : ◌≡◌ {A = ℕ} 0 1 = let s = sym (cond-true (test x) (Some x) (find test xs) e) ∙ h in cc in absurd (omega arith))
+      (λ e. (e, sym (cond-false (test x) (Some x) (find test xs) e) ∙ h))
       (cases_Bool (test x))
 
   -- where none is found none passes, and the other way round
-  pub none_passes : (xs : List X) → first_that test xs ≡ None → NonePasses test xs
+  pub none_passes : (xs : List X) → find test xs ≡ None → NonePasses test xs
   none_passes [] h = tt
   none_passes (x ∷ xs) h = let p = none_here x xs h in (p.0, none_passes xs p.1)
 
-  pub none_found : (xs : List X) → NonePasses test xs → first_that test xs ≡ None
+  pub none_found : (xs : List X) → NonePasses test xs → find test xs ≡ None
   none_found [] h = refl
-  none_found (x ∷ xs) h = cond-false (test x) (Some x) (first_that test xs) h.0 ∙ none_found xs h.1
+  none_found (x ∷ xs) h = cond-false (test x) (Some x) (find test xs) h.0 ∙ none_found xs h.1
 
   -- where none is found, nothing goes; else one goes
-  pub without_none : (xs : List X) → first_that test xs ≡ None → without_that test xs ≡ xs
+  pub without_none : (xs : List X) → find test xs ≡ None → without_that test xs ≡ xs
   without_none [] h = refl
   without_none (x ∷ xs) h =
       let p = none_here x xs h in
       cond-false (test x) xs (x ∷ without_that test xs) p.0 ∙ ap (λ (l : List X). x ∷ l) (without_none xs p.1)
 
-  pub length_without : (xs : List X) → is_some (first_that test xs) ≡ true → length (without_that test xs) + 1 ≡ length xs
+  pub length_without : (xs : List X) → is_some (find test xs) ≡ true → length (without_that test xs) + 1 ≡ length xs
   length_without [] h = absurd (true≢false (sym h))
   length_without (x ∷ xs) h =
       ⊎_elim
       (λ e. omega (arith, ap length (cond-true (test x) xs (x ∷ without_that test xs) e)))
       (λ e.
-      let ih = length_without xs (sym (ap is_some (cond-false (test x) (Some x) (first_that test xs) e)) ∙ h) in
+      let ih = length_without xs (sym (ap is_some (cond-false (test x) (Some x) (find test xs) e)) ∙ h) in
       omega (arith, ih, ap length (cond-false (test x) xs (x ∷ without_that test xs) e)))
       (cases_Bool (test x))
 
   -- a test that nothing passes along with this one finds what it found before
-  pub first_without : (other : X → Bool) → ((x : X) → test x ≡ true → other x ≡ false) → (xs : List X) → first_that other (without_that test xs) ≡ first_that other xs
+  pub first_without : (other : X → Bool) → ((x : X) → test x ≡ true → other x ≡ false) → (xs : List X) → find other (without_that test xs) ≡ find other xs
   first_without other apart [] = refl
   first_without other apart (x ∷ xs) =
-      cond_both (test x) xs (x ∷ without_that test xs) (λ l. first_that other l ≡ first_that other (x ∷ xs))
-      (λ e. sym (cond-false (other x) (Some x) (first_that other xs) (apart x e)))
+      cond_both (test x) xs (x ∷ without_that test xs) (λ l. find other l ≡ find other (x ∷ xs))
+      (λ e. sym (cond-false (other x) (Some x) (find other xs) (apart x e)))
       (λ e. ap (λ (r : Option X). cond (other x) (Some x) r) (first_without other apart xs))
 
   -- what is left was there before
@@ -66,24 +66,24 @@ module _ {K : Type 0} (cmp : K → K → Ordering) (e : Entry K) where
       cond_both (above cmp e.key x) (e ∷ x ∷ xs) (x ∷ shelved cmp e xs) (λ l. length l ≡ length (x ∷ xs) + 1) (λ _. omega arith) (λ _. omega (arith, length_shelved xs))
 
   -- a test that the new entry does not pass finds what it found before
-  pub first_shelved_other : (test : Entry K → Bool) → test e ≡ false → (xs : List (Entry K)) → first_that test (shelved cmp e xs) ≡ first_that test xs
+  pub first_shelved_other : (test : Entry K → Bool) → test e ≡ false → (xs : List (Entry K)) → find test (shelved cmp e xs) ≡ find test xs
   first_shelved_other test no_e [] = cond-false (test e) (Some e) None no_e
   first_shelved_other test no_e (x ∷ xs) =
-      cond_both (above cmp e.key x) (e ∷ x ∷ xs) (x ∷ shelved cmp e xs) (λ l. first_that test l ≡ first_that test (x ∷ xs))
-      (λ _. cond-false (test e) (Some e) (first_that test (x ∷ xs)) no_e)
+      cond_both (above cmp e.key x) (e ∷ x ∷ xs) (x ∷ shelved cmp e xs) (λ l. find test l ≡ find test (x ∷ xs))
+      (λ _. cond-false (test e) (Some e) (find test (x ∷ xs)) no_e)
       (λ _. ap (λ (r : Option (Entry K)). cond (test x) (Some x) r) (first_shelved_other test no_e xs))
 
   -- a test that it alone passes finds it, and without it the list is the old one
   module _ (test : Entry K → Bool) (yes_e : test e ≡ true) where
-    pub first_shelved : (xs : List (Entry K)) → first_that test xs ≡ None → first_that test (shelved cmp e xs) ≡ Some e
+    pub first_shelved : (xs : List (Entry K)) → find test xs ≡ None → find test (shelved cmp e xs) ≡ Some e
     first_shelved [] none = cond-true (test e) (Some e) None yes_e
     first_shelved (x ∷ xs) none =
         let p = none_here test x xs none in
-        cond_both (above cmp e.key x) (e ∷ x ∷ xs) (x ∷ shelved cmp e xs) (λ l. first_that test l ≡ Some e)
-        (λ _. cond-true (test e) (Some e) (first_that test (x ∷ xs)) yes_e)
-        (λ _. cond-false (test x) (Some x) (first_that test (shelved cmp e xs)) p.0 ∙ first_shelved xs p.1)
+        cond_both (above cmp e.key x) (e ∷ x ∷ xs) (x ∷ shelved cmp e xs) (λ l. find test l ≡ Some e)
+        (λ _. cond-true (test e) (Some e) (find test (x ∷ xs)) yes_e)
+        (λ _. cond-false (test x) (Some x) (find test (shelved cmp e xs)) p.0 ∙ first_shelved xs p.1)
 
-    pub without_shelved : (xs : List (Entry K)) → first_that test xs ≡ None → without_that test (shelved cmp e xs) ≡ xs
+    pub without_shelved : (xs : List (Entry K)) → find test xs ≡ None → without_that test (shelved cmp e xs) ≡ xs
     without_shelved [] none = cond-true (test e) [] (e ∷ []) yes_e
     without_shelved (x ∷ xs) none =
         let p = none_here test x xs none in

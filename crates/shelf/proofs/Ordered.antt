@@ -2,7 +2,7 @@
 use Rattle.std.proofs.Common.{◌≡◌, ℕ, zero, suc, Bool, true, false, cond, List, [], ◌∷◌, ◌++◌, take, drop, Some, None, Option, Ordering, Less, Equal, Greater, sym, refl, ap, ◌∙◌, ⊎_elim, arith}
 use Rattle.std.proofs.ByRecursion.{All-take, All-weaker}
 use Rattle.std.proofs.lemmas.List.{append-nil}
-use Rattle.std.proofs.lemmas.Bool.{cond_both, cases_Bool, true≢false, both_ways}
+use Rattle.std.proofs.lemmas.Bool.{cond_both, cond-true, cond-false, cases_Bool, true≢false, both_ways}
 use Rattle.std.specs.List.{insert, AllByRecursion}
 use Rattle.std.specs.Cmp.{IsTotalOrder, alike_right}
 use Rattle.std.specs.Ordering.{is_eq, is_gt, ordering_reverse}
@@ -11,6 +11,7 @@ use Rattle.shelf.specs.Places.{above, place_of, first_above, shelved, Ascending}
 use Rattle.shelf.specs.Laws.{Arrived, InTurn, Reach, Next, AllAbove, of_key}
 use Rattle.shelf.specs.Searches.{without_that}
 use Rattle.shelf.proofs.Firsts.{all_without, kept_none, at_later, at_once}
+use Rattle.shelf.proofs.Steps.{place_both}
 
 -- ---- any comparison
 
@@ -27,7 +28,9 @@ module _ {K : Type 0} (cmp : K → K → Ordering) where
   pub inserted_shelved : (e : Entry K) (xs : List (Entry K)) → insert xs (place_of cmp e.key xs) e ≡ shelved cmp e xs
   inserted_shelved e [] = refl
   inserted_shelved e (x ∷ xs) =
-      elim (above cmp e.key x) as (λ b. insert (x ∷ xs) (cond b 0 (suc (place_of cmp e.key xs))) e ≡ cond b (e ∷ x ∷ xs) (x ∷ shelved cmp e xs)) [ true ↦ refl | false ↦ ap (λ (l : List (Entry K)). x ∷ l) (inserted_shelved e xs) ]
+      place_both (above cmp e.key) x xs (λ n. insert (x ∷ xs) n e ≡ shelved cmp e (x ∷ xs))
+      (λ t. sym (cond-true (above cmp e.key x) (e ∷ x ∷ xs) (x ∷ shelved cmp e xs) t))
+      (λ t. ap (λ (l : List (Entry K)). x ∷ l) (inserted_shelved e xs) ∙ sym (cond-false (above cmp e.key x) (e ∷ x ∷ xs) (x ∷ shelved cmp e xs) t))
 
   -- the order stays where the first that passes a test goes
   pub ascending_without : (test : Entry K → Bool) (xs : List (Entry K)) → Ascending cmp xs → Ascending cmp (without_that test xs)
@@ -148,7 +151,7 @@ module _ {K : Type 0} {R : K → K → Ordering} (o : IsTotalOrder R) where
   pub reach : (k : K) (xs : List (Entry K)) → Ascending R xs → Reach R k xs (place_of R k xs)
   reach k [] up = record { within = omega arith; reached = tt; beyond = tt }
   reach k (x ∷ xs) up =
-      cond_both (above R k x) 0 (suc (place_of R k xs)) (Reach R k (x ∷ xs))
+      place_both (above R k) x xs (Reach R k (x ∷ xs))
       (λ t. record { within = omega arith; reached = tt; beyond = all_above k x xs t up })
       (λ t.
       let r = reach k xs up.1 in

@@ -10,7 +10,7 @@ pub(crate) mod questions;
 pub(crate) mod walks;
 
 pub use changes::{insert, remove, take_first};
-pub use kinds::{file, wait};
+pub use kinds::{is_further, is_later};
 pub use questions::{count, count_to, find, first_above};
 
 #[cfg(test)]
