@@ -1,22 +1,19 @@
-// The records of the two racks.
+// The record of a rack.
 ghost use Rattle.std.specs.Prelude.{◌≡◌, ◌≤◌, length};
 
 use shelf::entries::Entry;
 
-// The waiting triggers: a moment with its slot. The first `used` entries are on the shelf.
-#[derive(Clone, Copy)]
-pub struct Waiting {
-    pub(crate) entries: [Entry<u64>; 12],
+// Room for twelve entries, of which the first `used` are on the shelf.
+#[derive(Drop)]
+pub struct Rack<K> {
+    pub(crate) entries: [Entry<K>; 12],
     pub(crate) used: usize,
     ghost twelve: { length entries ≡ 12 },
     ghost within: { used ≤ 12 },
 }
 
-// The category places: category and slide with an accession number. The first `used` entries are on the shelf.
-#[derive(Clone, Copy)]
-pub struct Places {
-    pub(crate) entries: [Entry<(u8, u8)>; 12],
-    pub(crate) used: usize,
-    ghost twelve: { length entries ≡ 12 },
-    ghost within: { used ≤ 12 },
-}
+// The waiting triggers: a moment with its slot.
+pub type Waiting = Rack<u64>;
+
+// The category places: category and slide with an accession number.
+pub type Places = Rack<(u8, u8)>;
