@@ -20,9 +20,7 @@ impl<K: Ord + Copy + Default> Rack<K> {
             used: 0,
         }
     }
-}
 
-impl<K: Ord + Copy> Rack<K> {
     // What stands on it, in order.
     pub fn list(&self) -> &[Entry<K>]
         ensures value { result.now ≡ listed self.now }

@@ -1,10 +1,11 @@
 // The record of a rack.
 ghost use Rattle.std.specs.Prelude.{◌≡◌, ◌≤◌, length};
+ghost use Rattle.std.specs.Bool.{⊤};
 
 use shelf::entries::Entry;
+use std::alloc::AllocError;
 
 // Room for twelve entries, of which the first `used` are on the shelf.
-#[derive(Drop)]
 pub struct Rack<K> {
     pub(crate) entries: [Entry<K>; 12],
     pub(crate) used: usize,
@@ -17,3 +18,16 @@ pub type Waiting = Rack<u64>;
 
 // The category places: category and slide with an accession number.
 pub type Places = Rack<(u8, u8)>;
+
+// By hand: beside ghost fields of a generic struct neither is derived.
+impl<K: Copy> Clone for Rack<K> {
+    ghost is_clone = { λ x y. y ≡ x };
+
+    ghost is_infallible = { λ _. ⊤ };
+
+    fn clone(&self) -> Result<Self, AllocError> {
+        Ok(*self)
+    }
+}
+
+impl<K: Copy> Copy for Rack<K> {}
