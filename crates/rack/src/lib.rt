@@ -1,8 +1,7 @@
 // Racks. A rack is our word for a shelf that has room for twelve entries of its own: one for each slot.
 #![tactic(auto)]
 
-mod files;
+mod calls;
 pub mod keeps;
 pub mod racks;
 pub mod sieves;
-mod waits;

@@ -1,22 +1,33 @@
-// The records of the two racks.
+// The record of a rack.
 ghost use Rattle.std.specs.Prelude.{◌≡◌, ◌≤◌, length};
+ghost use Rattle.std.specs.Bool.{⊤};
 
 use shelf::entries::Entry;
+use std::alloc::AllocError;
 
-// The waiting triggers: a moment with its slot. The first `used` entries are on the shelf.
-#[derive(Clone, Copy)]
-pub struct Waiting {
-    pub(crate) entries: [Entry<u64>; 12],
+// Room for twelve entries, of which the first `used` are on the shelf.
+pub struct Rack<K> {
+    pub(crate) entries: [Entry<K>; 12],
     pub(crate) used: usize,
     ghost twelve: { length entries ≡ 12 },
     ghost within: { used ≤ 12 },
 }
 
-// The category places: category and slide with an accession number. The first `used` entries are on the shelf.
-#[derive(Clone, Copy)]
-pub struct Places {
-    pub(crate) entries: [Entry<(u8, u8)>; 12],
-    pub(crate) used: usize,
-    ghost twelve: { length entries ≡ 12 },
-    ghost within: { used ≤ 12 },
+// The waiting triggers: a moment with its slot.
+pub type Waiting = Rack<u64>;
+
+// The category places: category and slide with an accession number.
+pub type Places = Rack<(u8, u8)>;
+
+// By hand: beside ghost fields of a generic struct neither is derived.
+impl<K: Copy> Clone for Rack<K> {
+    ghost is_clone = { λ x y. y ≡ x };
+
+    ghost is_infallible = { λ _. ⊤ };
+
+    fn clone(&self) -> Result<Self, AllocError> {
+        Ok(*self)
+    }
 }
+
+impl<K: Copy> Copy for Rack<K> {}

@@ -4,7 +4,8 @@ ghost use Rattle.shelf.specs.declared.entries.Entry as entries;
 
 use shelf::entries::Entry;
 
-// A test that an entry passes or not.
+// A test that an entry passes or not. No closure: a function that calls a closure passed to it has a `requires`, and a public
+// function here has none.
 pub trait EntryTest<K> {
     ghost test: { Self → entries.Entry K → Bool };
 

@@ -1,8 +1,9 @@
 -- The first of a list that passes a test, and the list without it.
-use Rattle.std.proofs.Common.{◌≡◌, suc, Bool, true, false, cond, List, [], ◌∷◌, is_some, Some, None, filter, Option, sym, refl, ap, ◌∙◌}
+use Rattle.std.proofs.Common.{◌≡◌, Bool, true, false, List, [], ◌∷◌, is_some, Some, None, filter, Option, sym, refl, ap, ◌∙◌}
 use Rattle.std.proofs.lemmas.Bool.{cond_both, cond-true, cond-false, true≢false}
-use Rattle.std.specs.List.{remove, AllByRecursion}
-use Rattle.shelf.specs.Searches.{first_that, place_that, without_that, FirstAt, First, Lost}
+use Rattle.std.specs.List.{find, position_or_len, remove, AllByRecursion}
+use Rattle.shelf.specs.Searches.{without_that, FirstAt, First, Lost}
+use Rattle.shelf.proofs.Steps.{place_both}
 
 module _ {X : Type 0} (test : X → Bool) where
   -- the first behind one that does not pass, and one that passes in front of all
@@ -23,19 +24,19 @@ module _ {X : Type 0} (test : X → Bool) where
   further x xs (Some y) e h = at_later x e h
 
   -- what the search answers is the first
-  pub first_is : (xs : List X) → First test xs (first_that test xs)
+  pub first_is : (xs : List X) → First test xs (find test xs)
   first_is [] = tt
   first_is (x ∷ xs) =
-      cond_both (test x) (Some x) (first_that test xs) (First test (x ∷ xs)) (at_once x xs) (λ e. further x xs (first_that test xs) e (first_is xs))
+      cond_both (test x) (Some x) (find test xs) (First test (x ∷ xs)) (at_once x xs) (λ e. further x xs (find test xs) e (first_is xs))
 
   -- what is left is the list without the first
-  pub lost : (xs : List X) → is_some (first_that test xs) ≡ true → Lost test xs (without_that test xs)
+  pub lost : (xs : List X) → is_some (find test xs) ≡ true → Lost test xs (without_that test xs)
   lost [] h = absurd (true≢false (sym h))
   lost (x ∷ xs) h =
       cond_both (test x) xs (x ∷ without_that test xs) (Lost test (x ∷ xs))
       (λ e. record { item = x; at = at_once x xs e; left = refl })
       (λ e.
-      let l = lost xs (sym (ap is_some (cond-false (test x) (Some x) (first_that test xs) e)) ∙ h) in
+      let l = lost xs (sym (ap is_some (cond-false (test x) (Some x) (find test xs) e)) ∙ h) in
       record { item = l.item; at = at_later x e l.at; left = ap (λ (ys : List X). x ∷ ys) l.left })
 
   -- without the first, nothing is gained
@@ -45,10 +46,12 @@ module _ {X : Type 0} (test : X → Bool) where
       cond_both (test x) xs (x ∷ without_that test xs) (AllByRecursion P) (λ _. h.1) (λ _. (h.0, all_without P xs h.1))
 
   -- the list without the first, by its place
-  pub removed_first : (xs : List X) → remove xs (place_that test xs) ≡ without_that test xs
+  pub removed_first : (xs : List X) → remove xs (position_or_len test xs) ≡ without_that test xs
   removed_first [] = refl
   removed_first (x ∷ xs) =
-      elim (test x) as (λ b. remove (x ∷ xs) (cond b 0 (suc (place_that test xs))) ≡ cond b xs (x ∷ without_that test xs)) [ true ↦ refl | false ↦ ap (λ (l : List X). x ∷ l) (removed_first xs) ]
+      place_both test x xs (λ n. remove (x ∷ xs) n ≡ without_that test (x ∷ xs))
+      (λ e. sym (cond-true (test x) xs (x ∷ without_that test xs) e))
+      (λ e. ap (λ (l : List X). x ∷ l) (removed_first xs) ∙ sym (cond-false (test x) xs (x ∷ without_that test xs) e))
 
 -- where all pass a test, or none does
 module _ {X : Type 0} (p : X → Bool) where

@@ -1,8 +1,8 @@
 -- The order of a shelf's list, and what keeps it.
-use Rattle.std.proofs.Common.{◌≡◌, ℕ, zero, suc, Bool, true, false, cond, List, [], ◌∷◌, ◌++◌, take, drop, Some, None, Option, Ordering, Less, Equal, Greater, sym, refl, ap, ◌∙◌, ⊎_elim, arith}
-use Rattle.std.proofs.ByRecursion.{All-take, All-weaker}
+use Rattle.std.proofs.Common.{◌≡◌, Bool, true, false, cond, List, [], ◌∷◌, ◌++◌, Some, None, Option, Ordering, Less, Equal, Greater, sym, refl, ap, ◌∙◌, ⊎_elim, arith}
+use Rattle.std.proofs.ByRecursion.{All-weaker}
 use Rattle.std.proofs.lemmas.List.{append-nil}
-use Rattle.std.proofs.lemmas.Bool.{cond_both, cases_Bool, true≢false, both_ways}
+use Rattle.std.proofs.lemmas.Bool.{cond_both, cond-true, cond-false, cases_Bool, true≢false, both_ways}
 use Rattle.std.specs.List.{insert, AllByRecursion}
 use Rattle.std.specs.Cmp.{IsTotalOrder, alike_right}
 use Rattle.std.specs.Ordering.{is_eq, is_gt, ordering_reverse}
@@ -11,6 +11,7 @@ use Rattle.shelf.specs.Places.{above, place_of, first_above, shelved, Ascending}
 use Rattle.shelf.specs.Laws.{Arrived, InTurn, Reach, Next, AllAbove, of_key}
 use Rattle.shelf.specs.Searches.{without_that}
 use Rattle.shelf.proofs.Firsts.{all_without, kept_none, at_later, at_once}
+use Rattle.shelf.proofs.Steps.{place_both}
 
 -- ---- any comparison
 
@@ -27,7 +28,9 @@ module _ {K : Type 0} (cmp : K → K → Ordering) where
   pub inserted_shelved : (e : Entry K) (xs : List (Entry K)) → insert xs (place_of cmp e.key xs) e ≡ shelved cmp e xs
   inserted_shelved e [] = refl
   inserted_shelved e (x ∷ xs) =
-      elim (above cmp e.key x) as (λ b. insert (x ∷ xs) (cond b 0 (suc (place_of cmp e.key xs))) e ≡ cond b (e ∷ x ∷ xs) (x ∷ shelved cmp e xs)) [ true ↦ refl | false ↦ ap (λ (l : List (Entry K)). x ∷ l) (inserted_shelved e xs) ]
+      place_both (above cmp e.key) x xs (λ n. insert (x ∷ xs) n e ≡ shelved cmp e (x ∷ xs))
+      (λ t. sym (cond-true (above cmp e.key x) (e ∷ x ∷ xs) (x ∷ shelved cmp e xs) t))
+      (λ t. ap (λ (l : List (Entry K)). x ∷ l) (inserted_shelved e xs) ∙ sym (cond-false (above cmp e.key x) (e ∷ x ∷ xs) (x ∷ shelved cmp e xs) t))
 
   -- the order stays where the first that passes a test goes
   pub ascending_without : (test : Entry K → Bool) (xs : List (Entry K)) → Ascending cmp xs → Ascending cmp (without_that test xs)
@@ -36,17 +39,6 @@ module _ {K : Type 0} (cmp : K → K → Ordering) where
       cond_both (test x) xs (x ∷ without_that test xs) (Ascending cmp)
       (λ _. up.1)
       (λ _. (all_without test (λ y. above cmp y.key x ≡ false) xs up.0, ascending_without test xs up.1))
-
-  -- and so does the order of a part
-  pub ascending_take : (n : ℕ) (xs : List (Entry K)) → Ascending cmp xs → Ascending cmp (take n xs)
-  ascending_take zero xs up = tt
-  ascending_take (suc n) [] up = tt
-  ascending_take (suc n) (x ∷ xs) up = (All-take (λ y. above cmp y.key x ≡ false) n xs up.0, ascending_take n xs up.1)
-
-  pub ascending_drop : (n : ℕ) (xs : List (Entry K)) → Ascending cmp xs → Ascending cmp (drop n xs)
-  ascending_drop zero xs up = up
-  ascending_drop (suc n) [] up = tt
-  ascending_drop (suc n) (x ∷ xs) up = ascending_drop n xs up.1
 
 -- ---- a total order
 
@@ -148,7 +140,7 @@ module _ {K : Type 0} {R : K → K → Ordering} (o : IsTotalOrder R) where
   pub reach : (k : K) (xs : List (Entry K)) → Ascending R xs → Reach R k xs (place_of R k xs)
   reach k [] up = record { within = omega arith; reached = tt; beyond = tt }
   reach k (x ∷ xs) up =
-      cond_both (above R k x) 0 (suc (place_of R k xs)) (Reach R k (x ∷ xs))
+      place_both (above R k) x xs (Reach R k (x ∷ xs))
       (λ t. record { within = omega arith; reached = tt; beyond = all_above k x xs t up })
       (λ t.
       let r = reach k xs up.1 in

@@ -1,39 +1,27 @@
--- A search through a list by a test, place by place.
-use Rattle.std.proofs.Common.{◌≡◌, ℕ, suc, ◌+◌, ◌<◌, ◌≤◌, Bool, true, false, cond, List, [], ◌∷◌, length, get_or, drop, is_some, Some, None, sym, refl, ap, ◌∙◌, ⊎_elim, arith}
-use Rattle.std.proofs.lemmas.List.{at_drop_more, at_drop_all}
-use Rattle.std.proofs.lemmas.Bool.{cases_Bool, cond-true, cond-false}
-use Rattle.std.proofs.lemmas.Option.{slice_get_past}
-use Rattle.std.specs.List.{slice_get}
-use Rattle.shelf.specs.Searches.{first_that, place_that}
+-- The place of the first of a list that passes a test.
+use Rattle.std.proofs.Common.{◌≡◌, ℕ, suc, ◌+◌, ◌<◌, ◌≤◌, Bool, true, false, cond, not, List, [], ◌∷◌, length, position, is_some, Some, None, refl, ap, ◌∙◌, subst, arith}
+use Rattle.std.proofs.lemmas.Grind.{common_steps}
+use Rattle.std.proofs.lemmas.List.Folds.{find_at}
+use Rattle.std.proofs.lemmas.Option.{slice_get_past, slice_get-get_or}
+use Rattle.std.specs.List.{find, position_or_len}
 
 module _ {X : Type 0} (test : X → Bool) where
-  module _ (xs : List X) (i : ℕ) (x : X) (h : i < length xs) (is : x ≡ get_or xs i x) where
-    here : place_that test (drop i xs) ≡ cond (test x) 0 (suc (place_that test (drop (i + 1) xs)))
-    here = at_drop_more (place_that test) xs i x h ∙ rw (← is) refl
+  -- the place is 0, or one further on than in the rest
+  pub place_both : (x : X) (xs : List X) (P : ℕ → Type 0) → (test x ≡ true → P 0) → (test x ≡ false → P (suc (position_or_len test xs))) → P (position_or_len test (x ∷ xs))
+  place_both x xs P =
+      let n = position_or_len test xs in
+      let more : suc n ≡ 1 + n = omega arith in
+      elim (test x) as (λ b. (b ≡ true → P 0) → (b ≡ false → P (suc n)) → P (cond (not b) (1 + n) 0)) [ true ↦ λ yes no. yes refl | false ↦ λ yes no. subst P more (no refl) ]
 
-    pub place_stop : test x ≡ true → place_that test (drop i xs) ≡ 0
-    place_stop e = here ∙ cond-true _ _ _ e
+  -- without a place none passes, and with one the first that passes stands there
+  pub no_place : (xs : List X) → position test xs ≡ None → find test xs ≡ None
+  no_place xs h =
+      let past : length xs ≤ position_or_len test xs = grind (arith, common_steps) in
+      find_at test xs ∙ slice_get_past xs (position_or_len test xs) past
 
-    pub place_more : test x ≡ false → place_that test (drop i xs) ≡ suc (place_that test (drop (i + 1) xs))
-    place_more e = here ∙ cond-false _ _ _ e
-
-  pub place_all : (xs : List X) (i : ℕ) → length xs ≤ i → place_that test (drop i xs) ≡ 0
-  place_all xs i h = at_drop_all (place_that test) xs i h
-
-  -- the first that passes stands at its place
-  pub nth_place : (xs : List X) → slice_get xs (place_that test xs) ≡ first_that test xs
-  nth_place [] = refl
-  nth_place (x ∷ xs) =
-      elim (test x) as (λ b. slice_get (x ∷ xs) (cond b 0 (suc (place_that test xs))) ≡ cond b (Some x) (first_that test xs)) [ true ↦ refl | false ↦ nth_place xs ]
-
-  -- none passes where the place is past the end, and one passes where it is not
-  pub none_past : (xs : List X) → length xs ≤ place_that test xs → first_that test xs ≡ None
-  none_past xs h = sym (nth_place xs) ∙ slice_get_past xs (place_that test xs) h
-
-  pub some_within : (xs : List X) → place_that test xs < length xs → is_some (first_that test xs) ≡ true
-  some_within [] h = absurd (omega arith)
-  some_within (x ∷ xs) h =
-      ⊎_elim
-      (λ e. ap is_some (cond-true (test x) (Some x) (first_that test xs) e))
-      (λ e. ap is_some (cond-false (test x) (Some x) (first_that test xs) e) ∙ some_within xs (omega (arith, h, cond-false (test x) 0 (suc (place_that test xs)) e)))
-      (cases_Bool (test x))
+  pub some_place : (xs : List X) (i : ℕ) → position test xs ≡ Some i → (position_or_len test xs ≡ i) × (i < length xs) × (is_some (find test xs) ≡ true)
+  some_place [] i h = let z : ◌≡◌ {A = ℕ} 0 1 = cc in absurd (omega arith)
+  some_place (x ∷ xs) i h =
+      let at : position_or_len test (x ∷ xs) ≡ i = grind (arith, common_steps) in
+      let within : i < length (x ∷ xs) = grind (arith, common_steps) in
+      (at, within, ap is_some (find_at test (x ∷ xs) ∙ slice_get-get_or (x ∷ xs) (position_or_len test (x ∷ xs)) x (omega arith)))

@@ -2,22 +2,18 @@
 use Rattle.std.specs.Prelude.{◌≡◌, ℕ, Bool, false, cond, List, [], ◌∷◌, Option, ◌==◌}
 use Rattle.std.specs.declared.cmp.Ordering.{Ordering}
 use Rattle.std.specs.Ordering.{is_gt}
-use Rattle.std.specs.List.{AllByRecursion}
+use Rattle.std.specs.List.{find, position_or_len, AllByRecursion}
 use Rattle.shelf.specs.declared.entries.Entry.{Entry}
-use Rattle.shelf.specs.Searches.{first_that, place_that, without_that}
+use Rattle.shelf.specs.Searches.{without_that}
 
 module _ {K : Type 0} where
   -- the entry carries the load
   abbrev pub carries : ℕ → Entry K → Bool
   carries load x = x.load == load
 
-  -- how many entries stand in front of the first that carries the load: all, where none does
-  abbrev pub place_of_load : ℕ → List (Entry K) → ℕ
-  place_of_load load xs = place_that (carries load) xs
-
   -- the first entry that carries the load, or none
   abbrev pub found : ℕ → List (Entry K) → Option (Entry K)
-  found load xs = first_that (carries load) xs
+  found load xs = find (carries load) xs
 
   -- the list without the first entry that carries the load
   abbrev pub without : ℕ → List (Entry K) → List (Entry K)
@@ -30,11 +26,11 @@ module _ {K : Type 0} (cmp : K → K → Ordering) where
 
   -- how many entries, from the front, are not above the key: the place of the first that is above it
   abbrev pub place_of : K → List (Entry K) → ℕ
-  place_of k xs = place_that (above k) xs
+  place_of k xs = position_or_len (above k) xs
 
   -- the first entry above the key, or none
   abbrev pub first_above : K → List (Entry K) → Option (Entry K)
-  first_above k xs = first_that (above k) xs
+  first_above k xs = find (above k) xs
 
   -- the entry put in behind every entry, from the front, that is not above it
   abbrev pub shelved : Entry K → List (Entry K) → List (Entry K)

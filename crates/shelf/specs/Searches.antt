@@ -1,19 +1,9 @@
 -- The first of a list that passes a test.
-use Rattle.std.specs.Prelude.{◌≡◌, ℕ, suc, Bool, true, false, cond, List, [], ◌∷◌, ◌++◌, Some, None, Option}
+use Rattle.std.specs.Prelude.{◌≡◌, Bool, true, false, cond, List, [], ◌∷◌, ◌++◌, Some, None, Option}
 use Rattle.std.specs.List.{AllByRecursion}
 
 module _ {X : Type 0} (test : X → Bool) where
-  -- the first that passes, or none
-  abbrev pub first_that : List X → Option X
-  first_that [] = None
-  first_that (x ∷ xs) = cond (test x) (Some x) (first_that xs)
-
-  -- how many stand in front of it: all, where none passes
-  abbrev pub place_that : List X → ℕ
-  place_that [] = 0
-  place_that (x ∷ xs) = cond (test x) 0 (suc (place_that xs))
-
-  -- the list without it
+  -- the list without the first that passes
   abbrev pub without_that : List X → List X
   without_that [] = []
   without_that (x ∷ xs) = cond (test x) xs (x ∷ without_that xs)

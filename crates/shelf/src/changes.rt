@@ -2,7 +2,6 @@
 ghost use Rattle.std.specs.Prelude.{◌≡◌, ◌+◌, ◌-◌, ◌<◌, length, take, drop, IfSome, IfOk};
 ghost use Rattle.std.specs.declared.cmp.Ordering.{Ordering};
 ghost use Rattle.std.specs.List.{remove};
-ghost use Rattle.std.specs.Cmp.{IsTotalOrder};
 ghost use Rattle.std.specs.Option.{unwrap_or};
 ghost use Rattle.shelf.specs.Calls.{Received, Released, Headed};
 ghost use Rattle.shelf.specs.Laws.{Arrived, InTurn};
@@ -11,7 +10,7 @@ ghost use Rattle.shelf.specs.Searches.{Lost};
 
 use crate::entries::Entry;
 use crate::questions::count;
-use crate::walks::{entry_at, listed, place, place_of_load};
+use crate::walks::{listed, place, place_of_load};
 
 // Puts an entry behind every entry that is not above it, and answers how many are used now.
 // Where all entries are used it is handed back, and nothing is changed.
@@ -21,12 +20,12 @@ pub fn insert<K: Ord + Copy>(
     entry: Entry<K>,
 ) -> Result<usize, Entry<K>>
     ensures answer { Received used entry entries.old result entries.new }
-    ensures list { (o : IsTotalOrder K.Ord.cmp) → IfOk result (λ n. take n entries.new ≡ shelved K.Ord.cmp entry (take used entries.old)) }
+    ensures list { IfOk result (λ n. take n entries.new ≡ shelved K.Ord.cmp entry (take used entries.old)) }
     ensures rest { drop (used + 1) entries.new ≡ drop (used + 1) entries.old }
     ensures len { length entries.new ≡ length entries.old }
-    ensures order { (o : IsTotalOrder K.Ord.cmp) → Ascending K.Ord.cmp (take used entries.old) → IfOk result (λ n. Ascending K.Ord.cmp (take n entries.new)) }
-    ensures law { (o : IsTotalOrder K.Ord.cmp) → Ascending K.Ord.cmp (take used entries.old) → IfOk result (λ n. Arrived K.Ord.cmp entry (take used entries.old) (take n entries.new)) }
-    ensures turn { (o : IsTotalOrder K.Ord.cmp) → Ascending K.Ord.cmp (take used entries.old) → IfOk result (λ n. InTurn K.Ord.cmp entry (take used entries.old) (take n entries.new)) }
+    ensures order { Ascending K.Ord.cmp (take used entries.old) → IfOk result (λ n. Ascending K.Ord.cmp (take n entries.new)) }
+    ensures law { Ascending K.Ord.cmp (take used entries.old) → IfOk result (λ n. Arrived K.Ord.cmp entry (take used entries.old) (take n entries.new)) }
+    ensures turn { Ascending K.Ord.cmp (take used entries.old) → IfOk result (λ n. InTurn K.Ord.cmp entry (take used entries.old) (take n entries.new)) }
 {
     if used >= entries.len() {
         return Err(entry);
@@ -61,10 +60,7 @@ pub fn remove<K: Copy>(entries: &mut [Entry<K>], used: usize, load: u32) -> Opti
     ensures order { (cmp : K → K → Ordering) → Ascending cmp (take used entries.old) → Ascending cmp (take (unwrap_or result used) entries.new) }
     ensures law { IfSome result (λ n. Lost (carries load) (take used entries.old) (take n entries.new)) }
 {
-    let at = place_of_load(listed(entries, used), load);
-    if at >= count(entries, used) {
-        return None;
-    }
+    let at = place_of_load(listed(entries, used), load)?;
     Some(lift(entries, used, at))
 }
 
@@ -77,7 +73,7 @@ pub fn take_first<K: Copy>(entries: &mut [Entry<K>], used: usize) -> Option<Entr
     ensures len { length entries.new ≡ length entries.old }
     ensures order { (cmp : K → K → Ordering) → Ascending cmp (take used entries.old) → Ascending cmp (take (length (take used entries.old) - 1) entries.new) }
 {
-    let first = entry_at(listed(entries, used), 0)?;
+    let first = *listed(entries, used).first()?;
     let _ = lift(entries, used, 0);
     Some(first)
 }

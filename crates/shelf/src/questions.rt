@@ -1,12 +1,11 @@
 // What a shelf answers, and changes nothing.
 ghost use Rattle.std.specs.Prelude.{◌≡◌, ◌≤◌, length, take};
-ghost use Rattle.std.specs.Cmp.{IsTotalOrder};
 ghost use Rattle.shelf.specs.Laws.{Next, Reach};
 ghost use Rattle.shelf.specs.Places.{carries, found, place_of, first_above, Ascending};
 ghost use Rattle.shelf.specs.Searches.{First};
 
 use crate::entries::Entry;
-use crate::walks::{entry_at, listed, place, place_of_load};
+use crate::walks::{first_of_load, first_past, listed, place};
 
 // How many entries the shelf holds.
 pub fn count<K: Copy>(entries: &[Entry<K>], used: usize) -> usize
@@ -19,19 +18,18 @@ pub fn count<K: Copy>(entries: &[Entry<K>], used: usize) -> usize
 // How many entries, from the front, are not above the key.
 pub fn count_to<K: Ord + Copy>(entries: &[Entry<K>], used: usize, key: &K) -> usize
     ensures bound { result ≤ length (take used entries.now) }
-    ensures value { (o : IsTotalOrder K.Ord.cmp) → result ≡ place_of K.Ord.cmp key.now (take used entries.now) }
-    ensures law { (o : IsTotalOrder K.Ord.cmp) → Ascending K.Ord.cmp (take used entries.now) → Reach K.Ord.cmp key.now (take used entries.now) result }
+    ensures value { result ≡ place_of K.Ord.cmp key.now (take used entries.now) }
+    ensures law { Ascending K.Ord.cmp (take used entries.now) → Reach K.Ord.cmp key.now (take used entries.now) result }
 {
     place(listed(entries, used), key)
 }
 
 // The first entry that is strictly above the key, or none.
 pub fn first_above<K: Ord + Copy>(entries: &[Entry<K>], used: usize, key: &K) -> Option<Entry<K>>
-    ensures value { (o : IsTotalOrder K.Ord.cmp) → result ≡ first_above K.Ord.cmp key.now (take used entries.now) }
-    ensures law { (o : IsTotalOrder K.Ord.cmp) → Ascending K.Ord.cmp (take used entries.now) → Next K.Ord.cmp key.now (take used entries.now) result }
+    ensures value { result ≡ first_above K.Ord.cmp key.now (take used entries.now) }
+    ensures law { Ascending K.Ord.cmp (take used entries.now) → Next K.Ord.cmp key.now (take used entries.now) result }
 {
-    let list = listed(entries, used);
-    entry_at(list, place(list, key))
+    first_past(listed(entries, used), key)
 }
 
 // The first entry that carries the load, or none.
@@ -39,6 +37,5 @@ pub fn find<K: Copy>(entries: &[Entry<K>], used: usize, load: u32) -> Option<Ent
     ensures value { result ≡ found load (take used entries.now) }
     ensures law { First (carries load) (take used entries.now) result }
 {
-    let list = listed(entries, used);
-    entry_at(list, place_of_load(list, load))
+    first_of_load(listed(entries, used), load)
 }
