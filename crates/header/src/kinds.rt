@@ -27,7 +27,7 @@ pub struct Category {
 }
 
 // A name as it stands in a header: its character set, and its bytes as a part of the input.
-#[derive(Clone, Copy)]
+#[derive(Clone, Copy, PartialEq, Eq)]
 pub struct Label<'a> {
     pub charset: u8,
     pub bytes: &'a [u8],

@@ -4,7 +4,7 @@ ghost use Rattle.std.specs.Prelude.{◌≡◌, ◌-◌, ◌≤◌, length, drop,
 mod keeps;
 
 // A name's character set and its bytes, of which the first `len` count. Equal names are equal in every byte.
-#[derive(Clone, Copy)]
+#[derive(Clone, Copy, PartialEq, Eq)]
 pub struct Name {
     charset: u8,
     len: u8,

@@ -23,7 +23,7 @@ pub enum Meaning {
 }
 
 // What the parameters gave so far.
-#[derive(Clone, Copy)]
+#[derive(Clone, Copy, Default)]
 pub struct Found<'a> {
     pub expire: Option<Time>,
     pub trigger: Option<Time>,

@@ -10,7 +10,7 @@ full xs h =
 
 pub invariant_of-result : goal.invariant_of-result
 invariant_of-result c =
-    let xs = c.args.bytes.now in
+    let xs = c.args.label.bytes.now in
     let few = c.if-len-gt64.false in
     record {
       whole = ap length c.padded.ensures ∙ full xs few;
@@ -20,7 +20,7 @@ invariant_of-result c =
 
 pub returns : goal.returns
 returns c =
-    let xs = c.args.bytes.now in
+    let xs = c.args.label.bytes.now in
     let some = c.if-len-eq0.false in
     let e : take (length xs) c.padded.result ≡ xs = ap (take (length xs)) c.padded.ensures ∙ take_at xs (replicate (64 - length xs) 0) (length xs) refl in
-    (omega arith, c.if-len-gt64.false, λ i. record { charset = c.args.charset; bytes = e i })
+    (omega arith, c.if-len-gt64.false, λ i. record { charset = c.args.label.charset; bytes = e i })
