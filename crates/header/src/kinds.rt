@@ -10,7 +10,7 @@ pub enum Kind {
     Update,
 }
 
-// The first seven bytes.
+// The first seven bytes. Type and subtype are numbers as they stand there; `kind` alone gives them a meaning.
 #[derive(Clone, Copy)]
 pub struct Core {
     pub body_size: u32,

@@ -1,4 +1,4 @@
-// Hexadecimal text: bytes written as pairs of digits.
+// Hexadecimal text: its lines, and bytes written as pairs of digits. The kit's `hex` takes no blanks between pairs.
 #![tactic(auto)]
 
 ghost use Rattle.std.specs.Prelude.{◌≡◌, ◌<◌, IfSome, IfOk, vec_items};

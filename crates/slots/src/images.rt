@@ -59,7 +59,7 @@ impl Arrival {
     {
         self.progress.size == header.body_size
             && self.subtype == header.subtype
-            && name.is(header.name.charset, header.name.bytes)
+            && name.is(header.name)
             && self.version == header.version.unwrap_or(0)
             && same_time(self.expire, header.expire)
             && same_time(self.trigger, header.trigger)

@@ -13,7 +13,7 @@ fn padded(bytes: &[u8]) -> [u8; 64]
     ensures { result ≡ bytes.now ++ replicate (64 - length bytes.now) 0 }
 {
     let mut all = [0; 64];
-    all[0..bytes.len()].copy_from_slice(bytes);
+    all[..bytes.len()].copy_from_slice(bytes);
     all
 }
 
