@@ -1,5 +1,5 @@
 -- What the program answers to one line of its input.
-use Rattle.std.specs.Prelude.{◌≡◌, ℕ, cond, List, [], ◌∷◌, ◌++◌, length, Some, None, Ok, Err, Option, Result, ◌==◌}
+use Rattle.std.specs.Prelude.{◌≡◌, ℕ, List, [], ◌∷◌, Some, None, Ok, Err, Option, Result}
 use Rattle.display.specs.Layering.{edge_over, lag_over}
 use Rattle.display.specs.Meaning.{Meaning, blank, Settles}
 use Rattle.frametime.specs.declared.lines.Frames.{Frames}
@@ -35,11 +35,6 @@ Told p d (Ok (At m)) l = (f : Frames) × (l ≡ Shown f) × ShowsAt p d m f
 abbrev pub Answers : ℕ → ℕ → Option (List ℕ) → Line → Type 0
 Answers p d None l = l ≡ NotHexadecimal
 Answers p d (Some xs) l = Told p d (time_of xs) l
-
--- the lines of a text, with `line` read so far: each ends at a line feed, which the last may lack
-abbrev pub lines_from : List ℕ → List ℕ → List (List ℕ)
-lines_from line [] = cond (length line == 0) [] (line ∷ [])
-lines_from line (c ∷ cs) = cond (c == 10) (line ∷ lines_from [] cs) (lines_from (line ++ c ∷ []) cs)
 
 -- an answer for each line, in order
 abbrev pub EachAnswered : ℕ → ℕ → List (List ℕ) → List Line → Type 0

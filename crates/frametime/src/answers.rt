@@ -1,6 +1,7 @@
 // From a line of text to its answer.
-ghost use Rattle.std.specs.Prelude.{◌≡◌, [], IfOk};
-ghost use Rattle.frametime.specs.Answers.{ShowsAt, Told, Answers, lines_from, EachAnswered};
+ghost use Rattle.std.specs.Prelude.{◌≡◌, IfOk};
+ghost use Rattle.frametime.specs.Answers.{ShowsAt, Told, Answers, EachAnswered};
+ghost use Rattle.hexpairs.specs.Lines.{lines_of};
 ghost use Rattle.hexpairs.specs.Text.{bytes_of};
 ghost use Rattle.moment.specs.Field.{time_of};
 
@@ -11,6 +12,7 @@ use display::lags::Lag;
 use display::panels::Panel;
 use display::settings::{Delay, Period};
 use hexpairs::hex_bytes;
+use hexpairs::lines::lines_of;
 use moment::times::Time;
 use moment::{read_time, split};
 use std::alloc::{AllocError, Global};
@@ -63,18 +65,11 @@ pub fn answers(
     period: Period,
     delay: Delay,
 ) -> Result<Vec<Line>, AllocError>
-    ensures { IfOk result (λ v. EachAnswered period.apart delay.late (lines_from [] input.now) v.items) }
+    ensures { IfOk result (λ v. EachAnswered period.apart delay.late (lines_of input.now) v.items) }
 {
     let mut all = Vec::new(heap);
-    let mut start = 0;
-    for at in 0..input.len() {
-        if input[at] == b'\n' {
-            all.push(answer(heap, &input[start..at], period, delay)?)?;
-            start = at + 1;
-        }
-    }
-    if start < input.len() {
-        all.push(answer(heap, &input[start..], period, delay)?)?;
+    for line in lines_of(input) {
+        all.push(answer(heap, line, period, delay)?)?;
     }
     Ok(all)
 }

@@ -39,10 +39,7 @@ fn meaning(kind: Kind, id: u8) -> Meaning
 fn time(bytes: &[u8], place: u16) -> Result<Time, Fault>
     ensures { result ≡ time_at place bytes.now }
 {
-    match read_time(bytes) {
-        Ok(time) => Ok(time),
-        Err(fault) => Err(Fault { place, ..fault }),
-    }
+    read_time(bytes).map_err(|fault| Fault { place, ..fault })
 }
 
 // A version number: one byte.

@@ -1,5 +1,9 @@
 // Headers as they are read: what each is for, and every value that it holds.
+ghost use Rattle.std.specs.Prelude.{Some};
+ghost use Rattle.header.specs.Shown.{kind_text, category_text};
+
 use moment::times::Time;
+use std::fmt;
 
 // What a header announces.
 #[derive(Clone, Copy, PartialEq, Eq)]
@@ -10,7 +14,18 @@ pub enum Kind {
     Update,
 }
 
-// The first seven bytes.
+impl fmt::Display for Kind {
+    ghost output = { λ k. Some (kind_text k) };
+
+    fn fmt<W: fmt::Write>(&self, f: &mut fmt::Formatter<W>) -> fmt::Result {
+        match self {
+            Kind::Image => write!(f, "image"),
+            Kind::Update => write!(f, "update"),
+        }
+    }
+}
+
+// The first seven bytes. Type and subtype are numbers as they stand there; `kind` alone gives them a meaning.
 #[derive(Clone, Copy)]
 pub struct Core {
     pub body_size: u32,
@@ -26,8 +41,16 @@ pub struct Category {
     pub slide: u8,
 }
 
+impl fmt::Display for Category {
+    ghost output = { λ c. Some (category_text c) };
+
+    fn fmt<W: fmt::Write>(&self, f: &mut fmt::Formatter<W>) -> fmt::Result {
+        write!(f, "{}/{}", self.category, self.slide)
+    }
+}
+
 // A name as it stands in a header: its character set, and its bytes as a part of the input.
-#[derive(Clone, Copy)]
+#[derive(Clone, Copy, PartialEq, Eq)]
 pub struct Label<'a> {
     pub charset: u8,
     pub bytes: &'a [u8],

@@ -31,19 +31,11 @@ fn parameters<'a>(kind: Kind, extension: &'a [u8]) -> Result<Found<'a>, Fault>
     requires { 7 + length extension.now < 65536 }
     ensures { seen_found result ≡ params_of kind extension.now }
 {
-    let mut found = Found {
-        expire: None,
-        trigger: None,
-        version: None,
-        name: None,
-        category: None,
-    };
+    let mut found = Found::default();
     let mut left = extension;
     let mut place = CORE_SIZE;
-    while left.len() > 0 {
-        let Some(parameter) = first(left) else {
-            return Err(refused(Cause::ParameterPastEnd, place));
-        };
+    while !left.is_empty() {
+        let parameter = first(left).ok_or(refused(Cause::ParameterPastEnd, place))?;
         found.take(kind, parameter, place)?;
         place += (left.len() - parameter.rest.len()) as u16;
         left = parameter.rest;
@@ -55,9 +47,7 @@ fn parameters<'a>(kind: Kind, extension: &'a [u8]) -> Result<Found<'a>, Fault>
 fn complete<'a>(core: Core, kind: Kind, found: Found<'a>) -> Result<Header<'a>, Fault>
     ensures { seen result ≡ completed core kind (found_of found.entry) }
 {
-    let Some(name) = found.name else {
-        return Err(refused(Cause::NameMissing, 0));
-    };
+    let name = found.name.ok_or(refused(Cause::NameMissing, 0))?;
     match kind {
         Kind::Update if found.trigger.is_none() && found.category.is_none() => {
             Err(refused(Cause::UpdateWithoutEffect, 0))
@@ -90,9 +80,7 @@ fn read_with<'a>(
     if usize::from(core.header_size) != size {
         return Err(refused(Cause::HeaderSizeDiffers, 0));
     }
-    let Some(kind) = core.kind() else {
-        return Err(refused(Cause::NeitherImageNorUpdate, 0));
-    };
+    let kind = core.kind().ok_or(refused(Cause::NeitherImageNorUpdate, 0))?;
     if !body_fits(kind, core.body_size, slot_size) {
         return Err(refused(Cause::BodySizeMisfit, 0));
     }
@@ -105,9 +93,8 @@ pub fn read_header<'a>(bytes: &'a [u8], slot_size: u32) -> Result<Header<'a>, Fa
     ensures sound { IfOk (seen result) (Sound slot_size) }
     ensures law { HeaderLaw bytes.now slot_size (seen result) }
 {
-    let [b0, b1, b2, b3, b4, b5, b6, extension @ ..] = bytes else {
-        return Err(refused(Cause::HeaderCut, 0));
-    };
-    let core = unpack(*b0, *b1, *b2, *b3, *b4, *b5, *b6);
-    read_with(core, bytes.len(), extension, slot_size)
+    let (core, extension) = bytes
+        .split_first_chunk::<7>()
+        .ok_or(refused(Cause::HeaderCut, 0))?;
+    read_with(unpack(*core), bytes.len(), extension, slot_size)
 }

@@ -19,9 +19,7 @@ fn long_extent(bytes: &[u8]) -> Option<(usize, usize)>
 fn extent(bytes: &[u8]) -> Option<(usize, usize)>
     ensures { result ≡ extent_of bytes.now }
 {
-    let [head, behind @ ..] = bytes else {
-        return None;
-    };
+    let (head, behind) = bytes.split_first()?;
     let mark = usize::from(*head / 64);
     if mark < 3 {
         return Some((1, mark * mark));
@@ -34,14 +32,11 @@ pub fn first<'a>(bytes: &'a [u8]) -> Option<Parameter<'a>>
     ensures { seen_first result ≡ first_of bytes.now }
 {
     let (start, size) = extent(bytes)?;
-    let n = bytes.len();
-    if start > n || size > n - start {
-        return None;
-    }
-    let end = start + size;
+    let (_, behind) = bytes.split_at_checked(start)?;
+    let (held, rest) = behind.split_at_checked(size)?;
     Some(Parameter {
         id: bytes[0] % 64,
-        bytes: &bytes[start..end],
-        rest: &bytes[end..],
+        bytes: held,
+        rest,
     })
 }

@@ -1,12 +1,13 @@
-// What a line of the input says.
-use header::kinds::Header;
+// Why a line of the input says no header.
 use refusal::Fault;
+use thiserror::Error;
 
-#[derive(Drop)]
-pub enum Line<'a> {
-    // text that spells no bytes
+#[derive(Debug, Drop, Error)]
+pub enum NoHeader {
+    // its text spells no bytes
+    #[error("no hexadecimal text")]
     NoBytes,
-    // bytes that are no header
+    // the bytes that it spells are no header
+    #[error("refused {} layer {} place {}", .0.number(), .0.layer.number(), .0.place)]
     Refused(Fault),
-    Read(Header<'a>),
 }

@@ -5,39 +5,34 @@ mod answers;
 mod lines;
 mod shows;
 
-use anyhow::anyhow;
+use anyhow::Context;
 use hexpairs::hex_bytes;
-use lines::{first_line, read_line};
+use hexpairs::lines::lines_of;
+use lines::read_line;
+use shows::Values;
 use std::env;
 use std::io::Read;
 
 // The slot size that the first argument gives.
 fn slot_size(rt: &HostRuntime) -> anyhow::Result<u32> {
-    let mut words = env::args(rt)?;
-    let _ = words.next();
-    match words.next() {
-        Some(word) => Ok(word.as_str().parse::<u32>()?),
-        None => Err(anyhow!("the slot size is missing")),
-    }
+    let word = env::args(rt)?.nth(1).context("the slot size is missing")?;
+    Ok(word.as_str().parse::<u32>()?)
 }
 
 // Prints what one line says.
 fn dump_line(rt: &HostRuntime, number: usize, text: &[u8], slot_size: u32) -> anyhow::Result<()> {
     let bytes = hex_bytes(rt.alloc(), text)?;
-    let line = read_line(&bytes, slot_size);
-    println!(rt; "{number} {line}")?;
+    match read_line(&bytes, slot_size) {
+        Ok(header) => println!(rt; "{number} {}", Values(header))?,
+        Err(reason) => println!(rt; "{number} {reason}")?,
+    }
     Ok(())
 }
 
 // Prints what each line of the text says.
 fn dump(rt: &HostRuntime, text: &[u8], slot_size: u32) -> anyhow::Result<()> {
-    let mut left = text;
-    let mut number = 1;
-    while left.len() > 0 {
-        let (line, rest) = first_line(left);
+    for (number, line) in (1..).zip(lines_of(text)) {
         dump_line(rt, number, line, slot_size)?;
-        number += 1;
-        left = rest;
     }
     Ok(())
 }

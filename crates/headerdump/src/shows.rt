@@ -1,44 +1,15 @@
-// How a line of the output is written: every value field by field, or why there are none.
-use crate::answers::Line;
-use header::kinds::{Category, Header, Kind};
-use moment::times::Time;
+// How a header is written: every value field by field.
+use header::kinds::Header;
 use std::fmt;
 
-// A time, or a dash where none is given.
+// A value, or a dash where none is given.
 #[derive(Drop)]
-struct When(Option<Time>);
+struct OrDash<T>(Option<T>);
 
-impl fmt::Display for When {
+impl<T: fmt::Display> fmt::Display for OrDash<T> {
     fn fmt<W: fmt::Write>(&self, f: &mut fmt::Formatter<W>) -> fmt::Result {
-        match self.0 {
-            Some(Time::Now) => write!(f, "now"),
-            Some(Time::At(moment)) => write!(f, "{moment}"),
-            None => write!(f, "-"),
-        }
-    }
-}
-
-// A version number, or a dash.
-#[derive(Drop)]
-struct Version(Option<u8>);
-
-impl fmt::Display for Version {
-    fn fmt<W: fmt::Write>(&self, f: &mut fmt::Formatter<W>) -> fmt::Result {
-        match self.0 {
-            Some(version) => write!(f, "{version}"),
-            None => write!(f, "-"),
-        }
-    }
-}
-
-// A category and the slide in it, or a dash.
-#[derive(Drop)]
-struct Place(Option<Category>);
-
-impl fmt::Display for Place {
-    fn fmt<W: fmt::Write>(&self, f: &mut fmt::Formatter<W>) -> fmt::Result {
-        match self.0 {
-            Some(place) => write!(f, "{}/{}", place.category, place.slide),
+        match &self.0 {
+            Some(value) => write!(f, "{value}"),
             None => write!(f, "-"),
         }
     }
@@ -57,46 +28,27 @@ impl fmt::Display for Digits<'_> {
     }
 }
 
-fn show_core<W: fmt::Write>(h: &Header<'_>, f: &mut fmt::Formatter<W>) -> fmt::Result {
-    let kind = match h.kind {
-        Kind::Image => "image",
-        Kind::Update => "update",
-    };
-    write!(
-        f,
-        "{} body={} header={} type={} subtype={}",
-        kind, h.body_size, h.header_size, h.content_type, h.subtype
-    )
-}
+// The values of a header.
+#[derive(Drop)]
+pub struct Values<'a>(pub Header<'a>);
 
-fn show_parameters<W: fmt::Write>(h: &Header<'_>, f: &mut fmt::Formatter<W>) -> fmt::Result {
-    let charset = h.name.charset;
-    let name = Digits(h.name.bytes);
-    let version = Version(h.version);
-    let expire = When(h.expire);
-    let trigger = When(h.trigger);
-    let category = Place(h.category);
-    write!(f, " charset={charset} name={name} version={version}")?;
-    write!(f, " expire={expire} trigger={trigger} category={category}")
-}
-
-impl fmt::Display for Line<'_> {
+impl fmt::Display for Values<'_> {
     fn fmt<W: fmt::Write>(&self, f: &mut fmt::Formatter<W>) -> fmt::Result {
-        match self {
-            Line::NoBytes => write!(f, "no hexadecimal text"),
-            Line::Refused(fault) => {
-                let number = fault.number();
-                let layer = fault.layer.number();
-                write!(
-                    f,
-                    "refused {} layer {} place {}",
-                    number, layer, fault.place
-                )
-            }
-            Line::Read(header) => {
-                show_core(header, f)?;
-                show_parameters(header, f)
-            }
-        }
+        let Header {
+            kind,
+            body_size,
+            header_size,
+            content_type,
+            subtype,
+            name,
+            ..
+        } = self.0;
+        write!(f, "{kind} body={body_size} header={header_size}")?;
+        write!(f, " type={content_type} subtype={subtype}")?;
+        write!(f, " charset={} name={}", name.charset, Digits(name.bytes))?;
+        write!(f, " version={}", OrDash(self.0.version))?;
+        write!(f, " expire={}", OrDash(self.0.expire))?;
+        write!(f, " trigger={}", OrDash(self.0.trigger))?;
+        write!(f, " category={}", OrDash(self.0.category))
     }
 }

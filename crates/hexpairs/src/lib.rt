@@ -1,9 +1,11 @@
-// Hexadecimal text: bytes written as pairs of digits.
+// Hexadecimal text: its lines, and bytes written as pairs of digits. The kit's `hex` takes no blanks between pairs.
 #![tactic(auto)]
 
 ghost use Rattle.std.specs.Prelude.{◌≡◌, ◌<◌, IfSome, IfOk, vec_items};
 ghost use Rattle.std.specs.Option.{option_map};
 ghost use Rattle.hexpairs.specs.Text.{digit_of, blank, byte_of, bytes_of};
+
+pub mod lines;
 
 use std::alloc::{AllocError, Global};
 
@@ -12,12 +14,7 @@ fn digit(c: u8) -> Option<u8>
     ensures value { result ≡ digit_of c }
     ensures bound { IfSome result (λ d. d < 16) }
 {
-    match c {
-        b'0'..=b'9' => Some(c - b'0'),
-        b'A'..=b'F' => Some(c - b'A' + 10),
-        b'a'..=b'f' => Some(c - b'a' + 10),
-        _ => None,
-    }
+    Some(char::from(c).to_digit(16)? as u8)
 }
 
 // The byte of two digits, the upper half first.

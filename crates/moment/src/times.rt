@@ -1,4 +1,8 @@
 // What a time field says.
+ghost use Rattle.std.specs.Prelude.{Some};
+ghost use Rattle.moment.specs.Shown.{time_text};
+
+use std::fmt;
 
 // A moment counts milliseconds from midnight UTC of day 0 of the Modified Julian Date.
 #[derive(Clone, Copy, PartialEq, Eq, Debug)]
@@ -7,4 +11,15 @@ pub enum Time {
     Now,
     // at this moment
     At(u64),
+}
+
+impl fmt::Display for Time {
+    ghost output = { λ t. Some (time_text t) };
+
+    fn fmt<W: fmt::Write>(&self, f: &mut fmt::Formatter<W>) -> fmt::Result {
+        match self {
+            Time::Now => write!(f, "now"),
+            Time::At(moment) => write!(f, "{moment}"),
+        }
+    }
 }

@@ -70,7 +70,7 @@ impl Parts {
         let Some(k) = self.slot_for(transport) else {
             return Answer::Refused(NO_SLOT_TO_USE);
         };
-        let Some(name) = Name::new(header.name.charset, header.name.bytes) else {
+        let Some(name) = Name::new(header.name) else {
             unreachable()
         };
         self.begin(k, transport, header, name);

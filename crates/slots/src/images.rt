@@ -47,7 +47,7 @@ impl Arrival {
     {
         self.progress.size == header.body_size
             && self.subtype == header.subtype
-            && name.is(header.name.charset, header.name.bytes)
+            && name.is(header.name)
             && self.version == header.version.unwrap_or(0)
             && self.expire == header.expire
             && self.trigger == header.trigger

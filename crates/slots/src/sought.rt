@@ -80,7 +80,7 @@ impl<'a> SlotTest for Named<'a> {
 
     fn passes(&self, slot: &Slot) -> bool {
         match slot.state {
-            State::Held(_) => slot.name.is(self.0.charset, self.0.bytes),
+            State::Held(_) => slot.name.is(self.0),
             _ => false,
         }
     }
@@ -99,7 +99,7 @@ impl<'a> SlotTest for Versioned<'a> {
     fn passes(&self, slot: &Slot) -> bool {
         match slot.state {
             State::Held(holding) => {
-                slot.name.is(self.name.charset, self.name.bytes) && holding.version == self.version
+                slot.name.is(self.name) && holding.version == self.version
             }
             _ => false,
         }

@@ -99,7 +99,7 @@ fn sixty_four_segments_from_the_last(rt: HostRuntime) {
 #[test]
 fn a_slide_comes_and_goes(rt: HostRuntime) -> Result<(), Fail> {
     let header = slide_a()?;
-    let Some(name) = Name::new(header.name.charset, header.name.bytes) else {
+    let Some(name) = Name::new(header.name) else {
         return Err(Fail::new("the name is not kept"));
     };
     let again = ComesAgain {

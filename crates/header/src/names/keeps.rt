@@ -1,9 +1,11 @@
 // Making, reading and comparing kept names.
 ghost use Rattle.std.specs.Prelude.{◌≡◌, ◌-◌, ◌≤◌, ◌++◌, length, replicate, Decides};
+ghost use Rattle.header.specs.Finds.{name_of_label};
 ghost use Rattle.header.specs.Names.{same_name};
 ghost use Rattle.header.specs.Kept.{name_of, no_name, Keeps, KeptOnce};
 
 use super::Name;
+use crate::kinds::Label;
 
 // The bytes with zeros behind them.
 fn padded(bytes: &[u8]) -> [u8; 64]
@@ -11,7 +13,7 @@ fn padded(bytes: &[u8]) -> [u8; 64]
     ensures { result ≡ bytes.now ++ replicate (64 - length bytes.now) 0 }
 {
     let mut all = [0; 64];
-    all[0..bytes.len()].copy_from_slice(bytes);
+    all[..bytes.len()].copy_from_slice(bytes);
     all
 }
 
@@ -27,33 +29,37 @@ impl Name {
         }
     }
 
-    // The name of that character set and those bytes, if there are 1 to 64.
-    pub fn new(charset: u8, bytes: &[u8]) -> Option<Name>
-        ensures { Keeps charset bytes.now result }
+    // The name that the label spells, if it has 1 to 64 bytes.
+    pub fn new(label: Label<'_>) -> Option<Name>
+        ensures { Keeps (name_of_label label.entry) result }
     {
-        let len = bytes.len();
+        let len = label.bytes.len();
         if len == 0 || len > 64 {
             return None;
         }
         Some(Name {
-            charset,
+            charset: label.charset,
             len: len as u8,
-            bytes: padded(bytes),
+            bytes: padded(label.bytes),
         })
     }
 
-    fn text(&self) -> &[u8]
-        ensures { result.now ≡ (name_of self.now).bytes }
+    // The name as a label, its bytes a part of this one's.
+    fn label(&self) -> Label<'_>
+        ensures { name_of_label result ≡ name_of self.now }
     {
-        &self.bytes[0..usize::from(self.len)]
+        Label {
+            charset: self.charset,
+            bytes: &self.bytes[..usize::from(self.len)],
+        }
     }
 
-    // Whether this is the name of that character set and those bytes.
-    pub fn is(&self, charset: u8, bytes: &[u8]) -> bool
-        ensures value { result ≡ same_name (name_of self.now) (record { charset = charset; bytes = bytes.now }) }
-        ensures test { Decides result (name_of self.now ≡ record { charset = charset; bytes = bytes.now }) }
+    // Whether this is the name that the label spells.
+    pub fn is(&self, label: Label<'_>) -> bool
+        ensures value { result ≡ same_name (name_of self.now) (name_of_label label.entry) }
+        ensures test { Decides result (name_of self.now ≡ name_of_label label.entry) }
     {
-        self.charset == charset && self.text() == bytes
+        self.label() == label
     }
 
     // Whether the other is the same name.
@@ -62,6 +68,6 @@ impl Name {
         ensures test { Decides result (self.now ≡ other.now) }
         ensures once { KeptOnce }
     {
-        self.is(other.charset, other.text())
+        self == other
     }
 }

@@ -1,10 +1,10 @@
-use Rattle.std.proofs.Common.{◌-◌, ◌≤◌, List, [], ◌++◌, take, drop, vec_items}
-use Rattle.frametime.specs.Answers.{lines_from, EachAnswered}
+use Rattle.std.proofs.Common.{List, ◌++◌, vec_items}
+use Rattle.hexpairs.specs.Lines.{lines_of, left_of}
+use Rattle.frametime.specs.Answers.{EachAnswered}
 use Rattle.frametime.specs.declared.lines.Line.{Line}
 use Rattle.frametime.proofs.answers.answers.Given as goal
 
--- answers to what is left go behind those that are there
-abbrev pub invariant-loop-at : goal.invariant-loop-at
-invariant-loop-at l =
-    (l.start ≤ l.at)
-    × ((ls : List Line) → EachAnswered l.period.apart l.delay.late (lines_from (take (l.at - l.start) (drop l.start l.input)) (drop l.at l.input)) ls → EachAnswered l.period.apart l.delay.late (lines_from [] l.input) (vec_items l.all ++ ls))
+-- answers to the lines that are left go behind those that are there
+abbrev pub invariant-loop-line : goal.invariant-loop-line
+invariant-loop-line l =
+    (ls : List Line) → EachAnswered l.period.apart l.delay.late (left_of l.line-iterator) ls → EachAnswered l.period.apart l.delay.late (lines_of l.input) (vec_items l.all ++ ls)

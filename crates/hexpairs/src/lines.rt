@@ -1,0 +1,51 @@
+// The lines of a text.
+ghost use Rattle.std.specs.Prelude.{◌≡◌, ◌==◌, position};
+ghost use Rattle.std.specs.Iterator.{YieldsFirstRef, item_count};
+ghost use Rattle.hexpairs.specs.Lines.{FirstLine, lines_of, left_of};
+
+// The lines of a text that are still to come.
+#[derive(Drop)]
+pub struct Lines<'a> {
+    left: &'a [u8],
+}
+
+// Where the first line feed stands.
+fn feed(text: &[u8]) -> Option<usize>
+    ensures { result ≡ position (λ b. b == 10) text.now }
+{
+    text.iter().position(|b| *b == b'\n')
+}
+
+// The first line of a text, and what stands behind its line feed.
+fn first_line<'a>(text: &'a [u8]) -> (&'a [u8], &'a [u8])
+    ensures { FirstLine text.now result.0.now result.1.now }
+{
+    match feed(text) {
+        Some(at) => (&text[..at], &text[at + 1..]),
+        None => (text, &[]),
+    }
+}
+
+impl<'a> Iterator for Lines<'a> {
+    type Item = &'a [u8];
+
+    ghost next_gives = { YieldsFirstRef left_of };
+
+    ghost remaining = { item_count left_of };
+
+    fn next(&mut self) -> Option<&'a [u8]> {
+        if self.left.is_empty() {
+            return None;
+        }
+        let (line, rest) = first_line(self.left);
+        self.left = rest;
+        Some(line)
+    }
+}
+
+// The lines of a text: each ends at a line feed, which the last may lack.
+pub fn lines_of<'a>(text: &'a [u8]) -> Lines<'a>
+    ensures { left_of result ≡ lines_of text.now }
+{
+    Lines { left: text }
+}
