@@ -47,10 +47,6 @@ pub moved_held : (o : Object) (g : Segment) → after_segment o.progress g ≡ g
 moved_held o g e c =
     ap (λ q. filed_if (complete q) (with_progress o q)) e ∙ ap (λ b. filed_if b (more o g)) c
 
-pub moved_on : (o : Object) (g : Segment) → after_segment o.progress g ≡ grown o.progress g → complete (grown o.progress g) ≡ false → moved (slides.segment g) (arriving o) ≡ arriving (more o g)
-moved_on o g e c =
-    ap (λ q. filed_if (complete q) (with_progress o q)) e ∙ ap (λ b. filed_if b (more o g)) c
-
 module _ (s : State) (k : ℕ) (o : Object) (g : Segment) (i : slot_at s k ≡ arriving o) (lt : k < length s.slots) where
   -- the slot with the segment, and then the slide
   abbrev arrived : State

@@ -7,7 +7,6 @@ mod Begun
 mod Repeats
 mod Updated
 mod Headed
-mod Arrived
 mod Holds
 mod Segmented
 mod Insides

@@ -1,21 +1,15 @@
 -- What is seen of a slot by its index, and where no slot passes a test.
-use Rattle.std.proofs.Common.{◌≡◌, ℕ, suc, ◌<◌, ◌≤◌, Bool, true, false, cond, not, ◌&&◌, ◌||◌, List, [], ◌∷◌, map, length, get_or, is_some, Some, None, Option, sym, refl, ap, ◌∙◌, arith}
+use Rattle.std.proofs.Common.{◌≡◌, ℕ, suc, Bool, true, false, cond, not, ◌&&◌, ◌||◌, List, [], ◌∷◌, is_some, Some, None, Option, sym, refl, ap, ◌∙◌, arith}
 use Rattle.rules.proofs.Passes.{kept_all, freed_none, slot_false, every, any_none}
 use Rattle.rules.specs.Worlds.{State, slot_at, any, vacate}
 use Rattle.slots.specs.Searches.{first_from, first_slot}
-use Rattle.slots.specs.Seen.{seen}
+use Rattle.slots.specs.Contents.{slide_held}
+use Rattle.slots.specs.Seen.{index_of}
+use Rattle.slots.specs.declared.indices.SlotIndex.{SlotIndex}
 use Rattle.slots.specs.Slides as slides
 use Rattle.slots.specs.Slides.{free, numbered}
-use Rattle.slots.specs.declared.records.Slot.{Slot}
-use Rattle.std.proofs.lemmas.List.{get_or-map, length-map, get_or_past}
 use Rattle.std.specs.List.{AllByRecursion}
 use Rattle.rules.proofs.Moments.{all_mono}
-
-pub seen_at : (xs : List Slot) (k : ℕ) (x : Slot) → k < length xs → x ≡ get_or xs k x → get_or (map seen xs) k free ≡ seen x
-seen_at xs k x h e = get_or-map seen xs k x free h ∙ ap seen (sym e)
-
-pub seen_past : (xs : List Slot) (k : ℕ) → length xs ≤ k → get_or (map seen xs) k free ≡ free
-seen_past xs k h = get_or_past (map seen xs) k free (omega (arith, length-map xs seen))
 
 -- a search finds something where some slot passes
 pub found_any : (test : slides.Slot → Bool) (i : ℕ) (xs : List slides.Slot) → is_some (first_from test i xs) ≡ any test xs
@@ -37,6 +31,24 @@ none_passes test i (x ∷ xs) h = go (test x) refl h (none_passes test (suc i) x
 not_some : {X : Type 0} (o : Option X) → is_some o ≡ false → o ≡ None
 not_some None e = refl
 not_some (Some x) e = let z : ◌≡◌ {A = ℕ} 0 1 = cc in absurd (omega arith)
+
+not_twice : (b : Bool) → not (not b) ≡ b
+not_twice true = refl
+not_twice false = refl
+
+pub turned : (a b : Bool) → a ≡ not b → b ≡ not a
+turned a b e = sym (not_twice b) ∙ ap not (sym e)
+
+-- a slot is found where its index is
+pub index_some : (o : Option SlotIndex) → is_some (index_of o) ≡ is_some o
+index_some None = refl
+index_some (Some k) = refl
+
+-- a slot that holds no slide has no slide's number
+pub not_numbered : (z : slides.Slot) → None ≡ slide_held z → (n : ℕ) → numbered n z ≡ false
+not_numbered free e n = refl
+not_numbered (slides.arriving o) e n = refl
+not_numbered (slides.held x) e n = let q : ◌≡◌ {A = ℕ} 0 1 = cc in absurd (omega arith)
 
 -- where no slot passes, nothing leaves
 pub none_leaves : (test : slides.Slot → Bool) → test free ≡ false → (s : State) → is_some (first_slot test s.slots) ≡ false → vacate test s ≡ s

@@ -1,38 +1,42 @@
 -- Settings and readings by what the time field says.
-use Rattle.std.proofs.Common.{◌≡◌, ℕ, ◌-◌, ◌<◌, ◌≤◌, true, false, leb, List, length, filter, Result, sym, ap, ◌∙◌, ap₂}
+use Rattle.std.proofs.Common.{◌≡◌, ℕ, ◌-◌, ◌≤◌, Bool, true, false, cond, leb, List, length, filter, Ok, Err, Result, refl, sym, ◌∙◌, ap₂}
 use Rattle.moment.specs.Field.{time_of}
 use Rattle.moment.specs.declared.times.Time.{Time}
+use Rattle.moment.specs.declared.times.Time.TheVariants.{Now, At}
+use Rattle.receiver.specs.Settings.{moment_said, moment_in, set_by, read_by}
 use Rattle.refusal.specs.declared.Fault.{Fault}
 use Rattle.refusal.specs.declared.causes.Cause.TheVariants.{BodyMemoryMisfit, ReadingBelowClock}
 use Rattle.rules.proofs.Passes.{reading}
 use Rattle.rules.proofs.Sounds.{sound_ready}
-use Rattle.rules.specs.Calls.{Reply, counted, refused}
+use Rattle.rules.specs.Calls.{counted, refused}
 use Rattle.rules.specs.Clocks.{walk, walked, on_setting, on_reading, read_to, setting_step, reading_step}
 use Rattle.rules.specs.Headers.{receiver_fault}
 use Rattle.rules.specs.Passes.{seen, passed_to}
 use Rattle.rules.specs.Soundness.{Sound}
 use Rattle.rules.specs.Worlds.{World, fits_memory}
-use Rattle.std.proofs.lemmas.Bool.{cond-true, cond-false, le-leb, lt-leb}
+use Rattle.std.proofs.lemmas.Bool.{cond-true, le-leb}
 
-abbrev misfit : World → Reply × World
-misfit w = (refused (receiver_fault BodyMemoryMisfit), w)
-
+-- a setting and a reading by the moment that the field names
 module _ (w : World) (xs : List ℕ) where
-  pub setting_misfit : fits_memory w ≡ false → misfit w ≡ setting_step w xs
+  pub setting_said : set_by (moment_in w.state.room w.memory xs) w ≡ setting_step w xs
   unfolding setting_step
-  setting_misfit h = sym (cond-false (fits_memory w) (on_setting (time_of xs) w) (misfit w) h)
+  setting_said = go (fits_memory w) (time_of xs)
+    where
+      go : (b : Bool) (r : Result Time Fault) → set_by (cond b (moment_said r) (Err (receiver_fault BodyMemoryMisfit))) w ≡ cond b (on_setting r w) (refused (receiver_fault BodyMemoryMisfit), w)
+      go true (Err e) = refl
+      go true (Ok Now) = refl
+      go true (Ok (At t)) = refl
+      go false r = refl
 
-  pub setting_of : (r : Result Time Fault) → fits_memory w ≡ true → r ≡ time_of xs → on_setting r w ≡ setting_step w xs
-  unfolding setting_step
-  setting_of r h e = ap (λ x. on_setting x w) e ∙ sym (cond-true (fits_memory w) (on_setting (time_of xs) w) (misfit w) h)
-
-  pub reading_misfit : fits_memory w ≡ false → misfit w ≡ reading_step w xs
+  pub reading_said : read_by (moment_in w.state.room w.memory xs) w ≡ reading_step w xs
   unfolding reading_step
-  reading_misfit h = sym (cond-false (fits_memory w) (on_reading (time_of xs) w) (misfit w) h)
-
-  pub reading_of : (r : Result Time Fault) → fits_memory w ≡ true → r ≡ time_of xs → on_reading r w ≡ reading_step w xs
-  unfolding reading_step
-  reading_of r h e = ap (λ x. on_reading x w) e ∙ sym (cond-true (fits_memory w) (on_reading (time_of xs) w) (misfit w) h)
+  reading_said = go (fits_memory w) (time_of xs)
+    where
+      go : (b : Bool) (r : Result Time Fault) → read_by (cond b (moment_said r) (Err (receiver_fault BodyMemoryMisfit))) w ≡ cond b (on_reading r w) (refused (receiver_fault BodyMemoryMisfit), w)
+      go true (Err e) = refl
+      go true (Ok Now) = refl
+      go true (Ok (At t)) = refl
+      go false r = refl
 
 -- a reading is one pass
 module _ (t : ℕ) (w : World) where
@@ -41,7 +45,3 @@ module _ (t : ℕ) (w : World) where
       let r = reading t w (sound_ready w.state h) le in
       ap₂ (λ (i : ℕ) (y : World). (counted i, y)) (e ∙ sym r.1) (q ∙ sym r.0)
       ∙ sym (cond-true (leb w.state.clock t) (counted (walked (t - w.state.clock) w), walk (t - w.state.clock) w) (refused (receiver_fault ReadingBelowClock), w) (le-leb w.state.clock t le))
-
-  pub reading_below : t < w.state.clock → (refused (receiver_fault ReadingBelowClock), w) ≡ read_to t w
-  reading_below lt =
-      sym (cond-false (leb w.state.clock t) (counted (walked (t - w.state.clock) w), walk (t - w.state.clock) w) (refused (receiver_fault ReadingBelowClock), w) (lt-leb w.state.clock t lt))

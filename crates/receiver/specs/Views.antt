@@ -13,7 +13,7 @@ use Rattle.slots.specs.Slides.{free}
 
 abbrev pub state_of : Parts → State
 state_of p =
-    record { clock = p.clock; given = p.given; recent = p.recent; room = p.room; slots = all_seen p.slots; waiting = triggers p.waiting; places = filed p.places }
+    record { clock = p.clock; given = p.given; recent = p.recent.index; room = p.room; slots = all_seen p.slots; waiting = triggers p.waiting; places = filed p.places }
 
 -- before the first call: the first slot given will be slot 0
 abbrev pub fresh_state : ℕ → State

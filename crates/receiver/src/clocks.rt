@@ -1,5 +1,5 @@
 // The clock goes on: triggers take effect at their own moments, and what has expired goes.
-ghost use Rattle.std.specs.Prelude.{◌≡◌, ℕ, ◌*◌, ◌<◌, List, [], ◌∷◌, map, length, if◌then◌else◌, filter};
+ghost use Rattle.std.specs.Prelude.{◌≡◌, ℕ, ◌<◌, List, [], ◌∷◌, map, length, if◌then◌else◌, filter};
 ghost use Rattle.display.specs.Meaning.{Meaning};
 ghost use Rattle.receiver.specs.Views.{state_of, world_of};
 ghost use Rattle.rules.specs.Calls.{counted};
@@ -12,28 +12,20 @@ ghost use Rattle.slots.specs.Slides.{ends};
 use crate::parts::Parts;
 use crate::sieves::{After, NotBefore};
 use display::Display;
-use rack::sieves::EntryTest;
 use shelf::entries::Entry;
-use slots::sought::{Ending, SlotTest};
+use slots::indices::SlotIndex;
+use slots::sought::Ending;
 
 impl Parts {
     // Whether what is in slot k has expired by a moment.
-    fn ends_by(&self, k: usize, moment: u64) -> bool
-        requires { k < 12 }
-        ensures { result ≡ ends moment (slot_at (state_of self.now) k) }
+    fn ends_by(&self, k: SlotIndex, moment: u64) -> bool
+        ensures { result ≡ ends moment (slot_at (state_of self.now) k.index) }
     {
-        Ending(moment).passes(&self.slots.records[k])
+        self.slots.at(k).state.ends_by(moment)
     }
 
-    // Whether a trigger takes effect by a moment: its own has come, and its slide had not expired by then.
-    fn takes_effect(&self, entry: &Entry<u64>, moment: u64) -> bool
-        requires { entry.now.load < 12 }
-        ensures { result ≡ seen (state_of self.now) moment entry.now }
-    {
-        entry.key <= moment && !self.ends_by(entry.load as usize, entry.key)
-    }
-
-    // Shows the slide of a trigger from the trigger's own moment on, if it takes effect by a moment; answers whether.
+    // Shows the slide of a trigger from the trigger's own moment on, if it takes effect by a moment: its own has come, and
+    // its slide had not expired by then. Answers whether.
     fn show_if_due<D: Display>(
         &self,
         display: &mut D,
@@ -41,23 +33,23 @@ impl Parts {
         entry: &Entry<u64>,
         moment: u64,
     ) -> bool
-        requires within { entry.now.load < 12 }
-        requires fits { length memory.now ≡ 12 * self.now.room }
-        requires sound { Sound (state_of self.now) }
+        requires { entry.now.load < 12 }
         ensures due { result ≡ seen (state_of self.now) moment entry.now }
         ensures shows { D.Display.meaning display.new ≡ (if result then show_all (D.Display.meaning display.old) (shot (world_of self.now memory.now (D.Display.meaning display.old)) entry.now ∷ []) else D.Display.meaning display.old) }
     {
-        let due = self.takes_effect(entry, moment);
+        let Some(k) = SlotIndex::new(entry.load as usize) else {
+            unreachable!()
+        };
+        let due = entry.key <= moment && !self.ends_by(k, entry.key);
         if due {
-            self.show(display, memory, entry.load as usize, entry.key);
+            self.show(display, memory, k, entry.key);
         }
         due
     }
 
     // Shows what takes effect by a moment, each slide from its trigger's own moment on, and answers how many.
     fn show_due<D: Display>(&self, display: &mut D, memory: &[u8], moment: u64) -> usize
-        requires fits { length memory.now ≡ 12 * self.now.room }
-        requires sound { Sound (state_of self.now) }
+        requires { Sound (state_of self.now) }
         ensures count { result ≡ length (filter (seen (state_of self.now) moment) (state_of self.now).waiting) }
         ensures shows { D.Display.meaning display.new ≡ show_all (D.Display.meaning display.old) (map (shot (world_of self.now memory.now (D.Display.meaning display.old))) (filter (seen (state_of self.now) moment) (state_of self.now).waiting)) }
     {
@@ -73,8 +65,7 @@ impl Parts {
 
     // The clock comes to a moment: what takes effect by then is shown, what has expired by then goes.
     pub(crate) fn pass<D: Display>(&mut self, display: &mut D, memory: &[u8], moment: u64) -> usize
-        requires fits { length memory.now ≡ 12 * self.old.room }
-        requires sound { Sound (state_of self.old) }
+        requires { Sound (state_of self.old) }
         ensures count { result ≡ length (filter (seen (state_of self.old) moment) (state_of self.old).waiting) }
         ensures world { world_of self.new memory.now (D.Display.meaning display.new) ≡ passed_to moment (world_of self.old memory.now (D.Display.meaning display.old)) }
     {
@@ -100,8 +91,7 @@ impl Parts {
         memory: &[u8],
         moment: u64,
     ) -> usize
-        requires fits { length memory.now ≡ 12 * self.old.room }
-        requires sound { Sound (state_of self.old) }
+        requires { Sound (state_of self.old) }
         ensures { (counted result, world_of self.new memory.now (D.Display.meaning display.new)) ≡ set_to moment (world_of self.old memory.now (D.Display.meaning display.old)) }
     {
         self.prepare(moment);

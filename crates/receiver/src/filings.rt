@@ -1,5 +1,5 @@
 // A complete object becomes a held slide.
-ghost use Rattle.std.specs.Prelude.{◌≡◌, ◌*◌, ◌<◌, true, length, slice_index_or};
+ghost use Rattle.std.specs.Prelude.{◌≡◌, true, slice_index_or};
 ghost use Rattle.header.specs.Kept.{no_name};
 ghost use Rattle.receiver.specs.Arrivals.{object_at, more, with_segment, laid};
 ghost use Rattle.receiver.specs.Views.{state_of, world_of};
@@ -16,21 +16,21 @@ use crate::sieves::Called;
 use crate::verdicts::Verdict;
 use display::Display;
 use rules::answers::Answer;
+use slots::indices::SlotIndex;
 use slots::progress::Segment;
 use slots::records::{Arrival, Event};
 
 impl Parts {
     // Releases the held slide of the object's name, and lets the object in slot k, complete with this segment, be held.
-    fn hold(&mut self, k: usize, arrival: Arrival, segment: Segment)
-        requires within { k < 12 }
-        requires arrives { slot_at (state_of self.old) k ≡ arriving (object_at self.old k arrival) }
+    fn hold(&mut self, k: SlotIndex, arrival: Arrival, segment: Segment)
+        requires arrives { slot_at (state_of self.old) k.index ≡ arriving (object_at self.old k.index arrival) }
         requires lands { after_segment arrival.progress segment ≡ grown arrival.progress segment }
         requires complete { complete (grown arrival.progress segment) ≡ true }
-        ensures { state_of self.new ≡ put k (held (slide_of (more (object_at self.old k arrival) segment))) (vacate (named (slice_index_or (all_names self.old.slots) k no_name)) (put k (arriving (more (object_at self.old k arrival) segment)) (state_of self.old))) }
+        ensures { state_of self.new ≡ put k.index (held (slide_of (more (object_at self.old k.index arrival) segment))) (vacate (named (slice_index_or (all_names self.old.slots) k.index no_name)) (put k.index (arriving (more (object_at self.old k.index arrival) segment)) (state_of self.old))) }
     {
         let name = self.name_at(k);
         self.vacate(&Called(name));
-        self.slots.on(k, Event::Segment(segment));
+        self.slots.on(k.get(), Event::Segment(segment));
     }
 
     // Files the slide in slot k, complete with this segment: its category is set and its trigger armed.
@@ -38,18 +38,16 @@ impl Parts {
         &mut self,
         display: &mut D,
         memory: &[u8],
-        k: usize,
+        k: SlotIndex,
         arrival: Arrival,
         segment: Segment,
     ) -> Answer
-        requires within { k < 12 }
-        requires fits { length memory.now ≡ 12 * self.old.room }
         requires sound { Sound (state_of self.old) }
-        requires arrives { slot_at (state_of self.old) k ≡ arriving (object_at self.old k arrival) }
+        requires arrives { slot_at (state_of self.old) k.index ≡ arriving (object_at self.old k.index arrival) }
         requires lands { after_segment arrival.progress segment ≡ grown arrival.progress segment }
         requires complete { complete (grown arrival.progress segment) ≡ true }
         ensures answer { result ≡ told_filing (verdict self.old.clock arrival.trigger) arrival.number }
-        ensures world { world_of self.new memory.now (D.Display.meaning display.new) ≡ filed k (more (object_at self.old k arrival) segment) (with_segment k (object_at self.old k arrival) segment (world_of self.old memory.now (D.Display.meaning display.old))) }
+        ensures world { world_of self.new memory.now (D.Display.meaning display.new) ≡ filed k.index (more (object_at self.old k.index arrival) segment) (with_segment k.index (object_at self.old k.index arrival) segment (world_of self.old memory.now (D.Display.meaning display.old))) }
     {
         let verdict = Verdict::at(self.clock, arrival.trigger);
         self.hold(k, arrival, segment);
@@ -63,23 +61,21 @@ impl Parts {
         &mut self,
         display: &mut D,
         memory: &[u8],
-        k: usize,
+        k: SlotIndex,
         arrival: Arrival,
         segment: Segment,
     ) -> Answer
-        requires within { k < 12 }
-        requires fits { length memory.now ≡ 12 * self.old.room }
         requires sound { Sound (state_of self.old) }
-        requires arrives { slot_at (state_of self.old) k ≡ arriving (object_at self.old k arrival) }
+        requires arrives { slot_at (state_of self.old) k.index ≡ arriving (object_at self.old k.index arrival) }
         requires lands { after_segment arrival.progress segment ≡ grown arrival.progress segment }
-        ensures { (result, world_of self.new memory.now (D.Display.meaning display.new)) ≡ laid k (object_at self.old k arrival) segment (world_of self.old memory.now (D.Display.meaning display.old)) }
+        ensures { (result, world_of self.new memory.now (D.Display.meaning display.new)) ≡ laid k.index (object_at self.old k.index arrival) segment (world_of self.old memory.now (D.Display.meaning display.old)) }
     {
         let mut progress = arrival.progress;
         let _ = progress.take(segment);
         if progress.is_complete() {
             return self.file(display, memory, k, arrival, segment);
         }
-        self.slots.on(k, Event::Segment(segment));
+        self.slots.on(k.get(), Event::Segment(segment));
         Answer::Taken(arrival.number)
     }
 }

@@ -4,7 +4,6 @@ ghost use Rattle.receiver.specs.Views.{state_of, world_of, said};
 ghost use Rattle.rules.specs.Headers.{header_step};
 ghost use Rattle.rules.specs.Soundness.{Sound};
 
-use crate::faults::MEMORY_MISFIT;
 use crate::parts::Parts;
 use display::Display;
 use header::kinds::Kind;
@@ -24,9 +23,7 @@ impl Parts {
         requires { Sound (state_of self.old) }
         ensures { (said result, world_of self.new memory.now (D.Display.meaning display.new)) ≡ header_step (world_of self.old memory.now (D.Display.meaning display.old)) transport bytes.now }
     {
-        if memory.len() != 12 * self.room as usize {
-            return Err(MEMORY_MISFIT);
-        }
+        self.admit(memory)?;
         let header = read_header(bytes, self.room)?;
         match header.kind {
             Kind::Image => Ok(self.image(transport, &header)),

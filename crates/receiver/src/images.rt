@@ -18,22 +18,20 @@ use header::names::Name;
 use rack::racks::Places;
 use rack::sieves::Other;
 use rules::answers::Answer;
-use slots::finds::find;
 use slots::images::ComesAgain;
+use slots::indices::SlotIndex;
 use slots::moves::passed;
-use slots::records::{Arrival, Slots, State};
+use slots::records::{Arrival, Slots};
 use slots::sought::Versioned;
 
 // The last accession number that can be given.
 const LAST_NUMBER: u32 = 4_294_967_295;
 
 // Takes the slide in slot k off the places; a slot that holds no slide leaves them as they are.
-fn forget(places: &mut Places, slots: &Slots, k: usize)
-    requires { k < 12 }
-    ensures { filed places.new ≡ filter (λ e. not (numbered e.load (slice_index_or (all_seen slots.now) k free))) (filed places.old) }
+fn forget(places: &mut Places, slots: &Slots, k: SlotIndex)
+    ensures { filed places.new ≡ filter (λ e. not (numbered e.load (slice_index_or (all_seen slots.now) k.index free))) (filed places.old) }
 {
-    let slot = &slots.records[k];
-    if let State::Held(holding) = slot.state {
+    if let Some(holding) = slots.at(k).holding() {
         places.keep(&Other(holding.number));
     }
 }
@@ -41,17 +39,16 @@ fn forget(places: &mut Places, slots: &Slots, k: usize)
 impl Parts {
     // Gives slot k to an object, with the next number; what the slot held leaves, with its waiting trigger and its
     // category place.
-    pub(crate) fn begin(&mut self, k: usize, transport: u16, header: &Header<'_>, name: Name)
-        requires within { k < 12 }
+    pub(crate) fn begin(&mut self, k: SlotIndex, transport: u16, header: &Header<'_>, name: Name)
         requires number { self.old.given < 4294967295 }
         requires name { name_of name ≡ name_of_label header.now.name }
-        ensures { state_of self.new ≡ begun k transport (image_of (record_of header.now)) (state_of self.old) }
+        ensures { state_of self.new ≡ begun k.index transport (image_of (record_of header.now)) (state_of self.old) }
     {
         forget(&mut self.places, &self.slots, k);
-        self.waiting.keep(&Other(k as u32));
+        self.waiting.keep(&Other(k.get() as u32));
         self.given += 1;
         self.slots
-            .take(k, Arrival::new(transport, self.given, header), name);
+            .take(k.get(), Arrival::new(transport, self.given, header), name);
         self.recent = k;
     }
 
@@ -71,7 +68,7 @@ impl Parts {
             return Answer::Refused(NO_SLOT_TO_USE);
         };
         let Some(name) = Name::new(header.name) else {
-            unreachable()
+            unreachable!()
         };
         self.begin(k, transport, header, name);
         Answer::Taken(self.given)
@@ -87,14 +84,14 @@ impl Parts {
             name: header.name,
             version: header.version.unwrap_or(0),
         };
-        if let Some(k) = find(&self.slots.records, &versioned) {
+        if let Some(k) = self.slots.find(&versioned) {
             return Answer::Repeat(self.number_at(k));
         }
         let again = ComesAgain {
             transport,
             header: *header,
         };
-        if let Some(k) = find(&self.slots.records, &again) {
+        if let Some(k) = self.slots.find(&again) {
             return Answer::Repeat(self.number_at(k));
         }
         self.new_image(transport, header)

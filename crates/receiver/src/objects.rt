@@ -14,13 +14,9 @@ impl<D: Display, P> Receiver<D, P> {
     pub fn header(&mut self, memory: &[u8], transport: u16, bytes: &[u8]) -> Answer
         ensures { (result, world D.Display.meaning self.new memory.now) ≡ header_step (world D.Display.meaning self.old memory.now) transport bytes.now }
     {
-        match self
-            .parts
+        self.parts
             .header(&mut self.display, memory, transport, bytes)
-        {
-            Ok(answer) => answer,
-            Err(fault) => Answer::Refused(fault),
-        }
+            .unwrap_or_else(Answer::Refused)
     }
 
     // Takes a segment of the object that is sent under a TransportId: its bytes go into body memory, and with the last one
@@ -28,12 +24,8 @@ impl<D: Display, P> Receiver<D, P> {
     pub fn segment(&mut self, memory: &mut [u8], transport: u16, sent: &Sent<'_>) -> Answer
         ensures { (result, world D.Display.meaning self.new memory.new) ≡ segment_step (world D.Display.meaning self.old memory.old) transport sent.now.number sent.now.last sent.now.bytes.now }
     {
-        match self
-            .parts
+        self.parts
             .segment(&mut self.display, memory, transport, sent)
-        {
-            Ok(answer) => answer,
-            Err(fault) => Answer::Refused(fault),
-        }
+            .unwrap_or_else(Answer::Refused)
     }
 }

@@ -9,6 +9,7 @@ use crate::phases::Unset;
 use crate::receivers::Receiver;
 use display::Display;
 use rack::racks::{Places, Waiting};
+use slots::indices::SlotIndex;
 use slots::records::Slots;
 
 impl Parts {
@@ -19,7 +20,7 @@ impl Parts {
         Parts {
             clock: 0,
             given: 0,
-            recent: 11,
+            recent: SlotIndex::last(),
             room,
             slots: Slots::new(),
             waiting: Waiting::new(),

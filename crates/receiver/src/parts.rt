@@ -1,5 +1,6 @@
 // The receiver's plain data.
 use rack::racks::{Places, Waiting};
+use slots::indices::SlotIndex;
 use slots::records::Slots;
 
 // The clock (0 until it is set), how many accession numbers were given, the slot given last, the slot size, the slots, the
@@ -8,7 +9,7 @@ use slots::records::Slots;
 pub(crate) struct Parts {
     pub(crate) clock: u64,
     pub(crate) given: u32,
-    pub(crate) recent: usize,
+    pub(crate) recent: SlotIndex,
     pub(crate) room: u32,
     pub(crate) slots: Slots,
     pub(crate) waiting: Waiting,

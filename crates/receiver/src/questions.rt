@@ -10,7 +10,7 @@ ghost use Rattle.rules.specs.Soundness.{Sound};
 ghost use Rattle.shelf.specs.Kinds.{by_place};
 ghost use Rattle.shelf.specs.Places.{first_above};
 
-use crate::faults::{MEMORY_MISFIT, NOT_HELD};
+use crate::faults::NOT_HELD;
 use crate::parts::Parts;
 use crate::receivers::Receiver;
 use display::Display;
@@ -19,7 +19,6 @@ use header::kinds::Label;
 use refusal::Fault;
 use shelf::entries::Entry;
 use shelf::first_above;
-use slots::finds::find;
 use slots::sought::{Named, Numbered};
 
 // The first of these category places that is strictly above a given one.
@@ -34,7 +33,7 @@ impl Parts {
     pub(crate) fn find_name(&self, name: Label<'_>) -> Option<u32>
         ensures { (m : Meaning) (memory : List ℕ) → result ≡ number_of_name (world_of self.now memory m) (name_of_label name.entry) }
     {
-        let k = find(&self.slots.records, &Named(name))?;
+        let k = self.slots.find(&Named(name))?;
         Some(self.number_at(k))
     }
 
@@ -47,16 +46,11 @@ impl Parts {
 
     // The body of the held slide with an accession number, as a part of body memory.
     pub(crate) fn body<'m>(&self, accession: u32, memory: &'m [u8]) -> Result<&'m [u8], Fault>
-        requires { Sound (state_of self.now) }
         ensures { (m : Meaning) → bytes_of result ≡ body_of_number (world_of self.now memory.now m) accession }
     {
-        if memory.len() != 12 * self.room as usize {
-            return Err(MEMORY_MISFIT);
-        }
-        match find(&self.slots.records, &Numbered(accession)) {
-            None => Err(NOT_HELD),
-            Some(k) => Ok(self.body_in(k, memory)),
-        }
+        self.admit(memory)?;
+        let k = self.slots.find(&Numbered(accession)).ok_or(NOT_HELD)?;
+        Ok(self.body_in(k, memory))
     }
 }
 

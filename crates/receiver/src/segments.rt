@@ -4,14 +4,13 @@ ghost use Rattle.receiver.specs.Views.{state_of, world_of, said};
 ghost use Rattle.rules.specs.Assembly.{segment_step};
 ghost use Rattle.rules.specs.Soundness.{Sound};
 
-use crate::faults::{MEMORY_MISFIT, NOT_ARRIVING, SEGMENT_MISFIT};
+use crate::faults::{NOT_ARRIVING, SEGMENT_MISFIT};
 use crate::parts::Parts;
 use display::Display;
 use packed::paste;
 use refusal::Fault;
 use rules::answers::Answer;
 use slots::bodies::Sent;
-use slots::finds::find;
 use slots::progress::{Landing, Segment};
 use slots::sought::Arriving;
 
@@ -27,25 +26,19 @@ impl Parts {
         requires { Sound (state_of self.old) }
         ensures { (said result, world_of self.new memory.new (D.Display.meaning display.new)) ≡ segment_step (world_of self.old memory.old (D.Display.meaning display.old)) transport sent.now.number sent.now.last sent.now.bytes.now }
     {
-        if memory.len() != 12 * self.room as usize {
-            return Err(MEMORY_MISFIT);
-        }
-        let Some(k) = find(&self.slots.records, &Arriving(transport)) else {
+        self.admit(memory)?;
+        let Some(k) = self.slots.find(&Arriving(transport)) else {
             return Err(NOT_ARRIVING);
         };
         let Some(arrival) = self.arrival_at(k) else {
             return Err(NOT_ARRIVING);
         };
-        let segment = Segment {
-            number: sent.number,
-            last: sent.last,
-            length: sent.bytes.len(),
-        };
+        let segment = Segment::from(*sent);
         match arrival.progress.landing(segment) {
             Landing::Misfit => Err(SEGMENT_MISFIT),
             Landing::Again => Ok(Answer::Repeat(arrival.number)),
             Landing::At(offset) => {
-                let _ = paste(memory, k * self.room as usize + offset, sent.bytes);
+                let _ = paste(memory, k.get() * self.room as usize + offset, sent.bytes);
                 Ok(self.lay(display, memory, k, arrival, segment))
             }
         }

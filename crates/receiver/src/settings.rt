@@ -1,35 +1,14 @@
 // Time fields set the clock of a receiver, or are read.
-ghost use Rattle.std.specs.Prelude.{◌≡◌, ◌*◌, length, OnOk};
-ghost use Rattle.display.specs.Meaning.{Meaning};
+ghost use Rattle.std.specs.Prelude.{◌≡◌};
 ghost use Rattle.receiver.specs.Receivers.{world};
-ghost use Rattle.receiver.specs.Settings.{set_by, Sets};
-ghost use Rattle.receiver.specs.Views.{told, world_of};
-ghost use Rattle.rules.specs.Clocks.{setting_step, reading_step};
+ghost use Rattle.receiver.specs.Settings.{Sets};
+ghost use Rattle.receiver.specs.Views.{told};
+ghost use Rattle.rules.specs.Clocks.{reading_step};
 
-use crate::faults::{MEMORY_MISFIT, NO_MOMENT};
-use crate::parts::Parts;
 use crate::phases::{Running, Unset};
 use crate::receivers::{Receiver, Started, Unmoved};
 use display::Display;
-use moment::read_time;
-use moment::times::Time;
 use refusal::Fault;
-
-impl Parts {
-    // The moment to which a time field sets the clock, or why it does not.
-    fn moment_to_set(&self, memory: &[u8], field: &[u8]) -> Result<u64, Fault>
-        ensures value { (m : Meaning) → set_by result (world_of self.now memory.now m) ≡ setting_step (world_of self.now memory.now m) field.now }
-        ensures fits { OnOk result (length memory.now ≡ 12 * self.now.room) }
-    {
-        if memory.len() != 12 * self.room as usize {
-            return Err(MEMORY_MISFIT);
-        }
-        match read_time(field)? {
-            Time::Now => Err(NO_MOMENT),
-            Time::At(moment) => Ok(moment),
-        }
-    }
-}
 
 impl<D: Display> Receiver<D, Unset> {
     // Sets the clock from a time field: what has expired by then goes, and the triggers of just that moment take effect.
@@ -37,7 +16,7 @@ impl<D: Display> Receiver<D, Unset> {
     pub fn set(self, memory: &[u8], field: &[u8]) -> Result<Started<D>, Unmoved<D>>
         ensures { Sets D.Display.meaning self memory.now field.now result }
     {
-        let moment = match self.parts.moment_to_set(memory, field) {
+        let moment = match self.parts.moment_in(memory, field) {
             Ok(moment) => moment,
             Err(fault) => {
                 return Err(Unmoved {

@@ -9,7 +9,7 @@ use header::kinds::Category;
 use header::names::Name;
 use rack::sieves::EntryTest;
 use shelf::entries::Entry;
-use slots::finds::find;
+use slots::indices::SlotIndex;
 use slots::records::{Slot, Slots, State};
 use slots::sought::SlotTest;
 
@@ -57,15 +57,13 @@ impl<'a, T: SlotTest> EntryTest<u64> for Staying<'a, T> {
     ghost test = { λ t e. not (T.SlotTest.test t.test.now (slice_index_or (all_seen t.slots.now) e.load free)) };
 
     fn passes(&self, entry: &Entry<u64>) -> bool {
-        let k = entry.load as usize;
-        if k < 12 {
-            return !self.test.passes(&self.slots.records[k]);
-        }
-        let none = Slot {
-            state: State::Free,
-            name: Name::blank(),
+        let Some(k) = SlotIndex::new(entry.load as usize) else {
+            return !self.test.passes(&Slot {
+                state: State::Free,
+                name: Name::blank(),
+            });
         };
-        !self.test.passes(&none)
+        !self.test.passes(self.slots.at(k))
     }
 }
 
@@ -84,10 +82,7 @@ impl<'a, T: SlotTest> EntryTest<(u8, u8)> for Remaining<'a, T> {
             test: self.test,
             number: entry.load,
         };
-        match find(&self.slots.records, &both) {
-            Some(_) => false,
-            None => true,
-        }
+        self.slots.find(&both).is_none()
     }
 }
 
@@ -126,8 +121,6 @@ impl EntryTest<(u8, u8)> for Elsewhere {
     ghost test = { λ t e. not (e.load == t.number || (e.key.0 == t.category.category && e.key.1 == t.category.slide)) };
 
     fn passes(&self, entry: &Entry<(u8, u8)>) -> bool {
-        let (category, slide) = entry.key;
-        let same = category == self.category.category && slide == self.category.slide;
-        entry.load != self.number && !same
+        entry.load != self.number && entry.key != (self.category.category, self.category.slide)
     }
 }

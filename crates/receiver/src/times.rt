@@ -1,7 +1,10 @@
-// Readings of the clock.
-ghost use Rattle.std.specs.Prelude.{◌≡◌, ◌*◌, length};
+// Time fields: the moment that one names for a setting or a reading, and readings of the clock.
+ghost use Rattle.std.specs.Prelude.{◌≡◌, ◌*◌, length, MatchResult};
+ghost use Rattle.receiver.specs.Settings.{moment_in};
 ghost use Rattle.receiver.specs.Views.{state_of, world_of, told};
+ghost use Rattle.refusal.specs.declared.causes.Cause.TheVariants.{BodyMemoryMisfit};
 ghost use Rattle.rules.specs.Clocks.{read_to, reading_step};
+ghost use Rattle.rules.specs.Headers.{receiver_fault};
 ghost use Rattle.rules.specs.Soundness.{Sound};
 
 use crate::faults::{BELOW_CLOCK, MEMORY_MISFIT, NO_MOMENT};
@@ -12,6 +15,27 @@ use moment::times::Time;
 use refusal::Fault;
 
 impl Parts {
+    // Refuses body memory that is not twelve slots long.
+    pub(crate) fn admit(&self, memory: &[u8]) -> Result<(), Fault>
+        ensures { MatchResult result (λ _. length memory.now ≡ 12 * self.now.room) (λ e. (length memory.now ≡ 12 * self.now.room → ⊥) × (e ≡ receiver_fault BodyMemoryMisfit)) }
+    {
+        if memory.len() != 12 * self.room as usize {
+            return Err(MEMORY_MISFIT);
+        }
+        Ok(())
+    }
+
+    // The moment of a time field that sets the clock or is read, or why there is none.
+    pub(crate) fn moment_in(&self, memory: &[u8], field: &[u8]) -> Result<u64, Fault>
+        ensures { result ≡ moment_in self.now.room memory.now field.now }
+    {
+        self.admit(memory)?;
+        match read_time(field)? {
+            Time::Now => Err(NO_MOMENT),
+            Time::At(moment) => Ok(moment),
+        }
+    }
+
     // A reading of a moment, which may not lie below the clock.
     fn read_to<D: Display>(
         &mut self,
@@ -19,8 +43,7 @@ impl Parts {
         memory: &[u8],
         moment: u64,
     ) -> Result<usize, Fault>
-        requires fits { length memory.now ≡ 12 * self.old.room }
-        requires sound { Sound (state_of self.old) }
+        requires { Sound (state_of self.old) }
         ensures { (told result, world_of self.new memory.now (D.Display.meaning display.new)) ≡ read_to moment (world_of self.old memory.now (D.Display.meaning display.old)) }
     {
         if moment < self.clock {
@@ -39,12 +62,7 @@ impl Parts {
         requires { Sound (state_of self.old) }
         ensures { (told result, world_of self.new memory.now (D.Display.meaning display.new)) ≡ reading_step (world_of self.old memory.now (D.Display.meaning display.old)) field.now }
     {
-        if memory.len() != 12 * self.room as usize {
-            return Err(MEMORY_MISFIT);
-        }
-        match read_time(field)? {
-            Time::Now => Err(NO_MOMENT),
-            Time::At(moment) => self.read_to(display, memory, moment),
-        }
+        let moment = self.moment_in(memory, field)?;
+        self.read_to(display, memory, moment)
     }
 }

@@ -1,5 +1,5 @@
 // What an update header does.
-ghost use Rattle.std.specs.Prelude.{◌≡◌, ℕ, ◌*◌, true, List, length};
+ghost use Rattle.std.specs.Prelude.{◌≡◌, ℕ, true, List};
 ghost use Rattle.display.specs.Meaning.{Meaning};
 ghost use Rattle.header.specs.Headers.{record_of};
 ghost use Rattle.receiver.specs.Views.{state_of, world_of};
@@ -15,7 +15,6 @@ use display::Display;
 use header::kinds::{Category, Header};
 use refusal::Fault;
 use rules::answers::Answer;
-use slots::finds::find;
 use slots::images::real_category;
 use slots::sought::Named;
 
@@ -38,11 +37,10 @@ impl Parts {
         memory: &[u8],
         header: &Header<'_>,
     ) -> Answer
-        requires fits { length memory.now ≡ 12 * self.old.room }
-        requires sound { Sound (state_of self.old) }
+        requires { Sound (state_of self.old) }
         ensures { (result, world_of self.new memory.now (D.Display.meaning display.new)) ≡ update_step (world_of self.old memory.now (D.Display.meaning display.old)) (record_of header.now) }
     {
-        let Some(k) = find(&self.slots.records, &Named(header.name)) else {
+        let Some(k) = self.slots.find(&Named(header.name)) else {
             return Answer::Refused(NOT_HELD);
         };
         let number = self.number_at(k);

@@ -6,7 +6,6 @@ ghost use Rattle.slots.specs.Slides.{free};
 
 use crate::parts::Parts;
 use crate::sieves::{Remaining, Staying};
-use slots::finds::find;
 use slots::sought::SlotTest;
 
 impl Parts {
@@ -15,7 +14,7 @@ impl Parts {
         requires { T.SlotTest.test test.now free ≡ false }
         ensures { state_of self.new ≡ vacate (T.SlotTest.test test.now) (state_of self.old) }
     {
-        if find(&self.slots.records, test).is_none() {
+        if self.slots.find(test).is_none() {
             return;
         }
         self.waiting.keep(&Staying {

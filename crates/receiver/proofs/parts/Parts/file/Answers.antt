@@ -1,4 +1,4 @@
-use Rattle.std.proofs.Common.{◌*◌, ◌<◌, [], length, sym, ap, ◌∙◌, subst, arith}
+use Rattle.std.proofs.Common.{◌<◌, [], length, sym, ap, ◌∙◌, subst, arith}
 use Rattle.receiver.proofs.Holds.{sound_next, slot_next}
 use Rattle.receiver.proofs.Updated.{held_number}
 use Rattle.receiver.specs.Arrivals.{object_at, more}
@@ -16,10 +16,10 @@ pub categorise-requires : goal.categorise-requires
 categorise-requires g c =
     let p = c.args.self.now in
     let s : State = state_of p in
-    let k = c.args.k in
+    let k = c.args.k.index in
     let o : Object = object_at p k c.args.arrival in
     let u = c.args.segment in
-    let lt : k < length s.slots = omega (arith, p.slots.twelve, c.requires.within, length-map p.slots.records seen) in
+    let lt : k < length s.slots = omega (arith, p.slots.twelve, c.args.k.within, length-map p.slots.records seen) in
     let f : State = put k (held (slide_of (more o u))) (vacate (named o.image.name) (put k (arriving (more o u)) s)) in
     let j = slot_next s k o u c.requires.arrives lt c.requires.sound in
     record {
@@ -31,15 +31,11 @@ pub arm-requires : goal.arm-requires
 arm-requires g c =
     let p = c.args.self.now in
     let s : State = state_of p in
-    let k = c.args.k in
+    let k = c.args.k.index in
     let o : Object = object_at p k c.args.arrival in
     let u = c.args.segment in
-    let lt : k < length s.slots = omega (arith, p.slots.twelve, c.requires.within, length-map p.slots.records seen) in
+    let lt : k < length s.slots = omega (arith, p.slots.twelve, c.args.k.within, length-map p.slots.records seen) in
     let f : State = put k (held (slide_of (more o u))) (vacate (named o.image.name) (put k (arriving (more o u)) s)) in
     let w : World = record { state = f; memory = []; display = g.D.Display.meaning c.args.display.now } in
     let e = c.categorise.ensures ∙ ap (λ (x : State). holding x.slots x.waiting (in_category c.args.arrival.category o.number x.places) x) c.hold.ensures in
-    record {
-      within = c.requires.within;
-      fits = c.requires.fits ∙ ap (λ r. 12 * r) (sym (ap (λ (x : State). x.room) e));
-      sound = subst Sound (sym e) (sound_categorised c.args.arrival.category k w (slide_of (more o u)) (slot_next s k o u c.requires.arrives lt c.requires.sound) (sound_next s k o u c.requires.arrives lt c.requires.sound));
-    }
+    subst Sound (sym e) (sound_categorised c.args.arrival.category k w (slide_of (more o u)) (slot_next s k o u c.requires.arrives lt c.requires.sound) (sound_next s k o u c.requires.arrives lt c.requires.sound))

@@ -1,4 +1,4 @@
-use Rattle.std.proofs.Common.{ℕ, ◌*◌, leb, length, filter, sym, ap, ◌∙◌, subst, ap₂}
+use Rattle.std.proofs.Common.{ℕ, leb, length, filter, sym, ap, ◌∙◌, subst, ap₂}
 use Rattle.receiver.specs.Views.{state_of, world_of}
 use Rattle.rules.proofs.Settings.{due_seen, setting_passes}
 use Rattle.rules.proofs.Sounds.{sound_vacate, sound_filtered}
@@ -14,10 +14,7 @@ pass-requires g c =
     let s : State = state_of c.args.self.now in
     let t = c.args.moment in
     let e = c.prepare.ensures (g.D.Display.meaning c.args.display.now) c.args.memory.now in
-    record {
-      fits = c.requires.fits ∙ ap (λ n. 12 * n) (sym (ap (λ (w : World). w.state.room) e));
-      sound = subst (λ (w : World). Sound w.state) (sym e) (sound_filtered (λ x. leb t x.key) (vacate (ends t) s) (sound_vacate (ends t) s c.requires.sound));
-    }
+    subst (λ (w : World). Sound w.state) (sym e) (sound_filtered (λ x. leb t x.key) (vacate (ends t) s) (sound_vacate (ends t) s c.requires))
 
 pub returns : goal.returns
 returns g c =

@@ -1,6 +1,6 @@
-use Rattle.std.proofs.Common.{◌*◌, sym, ap, ◌∙◌, subst, arith}
+use Rattle.std.proofs.Common.{sym, ap, ◌∙◌, subst}
 use Rattle.header.specs.Finds.{name_of_label}
-use Rattle.receiver.proofs.Updated.{named_number, recategorised_room, sound_renamed}
+use Rattle.receiver.proofs.Updated.{named_number, sound_renamed}
 use Rattle.receiver.specs.Views.{state_of, world_of}
 use Rattle.rules.specs.Headers.{recategorised}
 use Rattle.rules.specs.Soundness.{Sound}
@@ -8,24 +8,17 @@ use Rattle.rules.specs.Worlds.{State, World, any}
 use Rattle.slots.specs.Slides.{numbered}
 use Rattle.receiver.proofs.parts.Parts.update.Goals as goal
 
-pub recategorise-requires : goal.recategorise-requires
-recategorise-requires g c =
+pub recategorise-requires-clause-held : goal.recategorise-requires-clause-held
+recategorise-requires-clause-held g c =
     let s : State = state_of c.args.self.now in
-    record {
-      sound = c.requires.sound;
-      held = ap (λ n. any (numbered n) s.slots) c.number_at-number.ensures ∙ named_number s (name_of_label c.args.header.now.name) c.in-Some.k (sym c.in-Some.ensures.value);
-    }
+    ap (λ n. any (numbered n) s.slots) c.number_at-number.ensures ∙ named_number s (name_of_label c.args.header.now.name) c.in-Some.k.index (sym c.in-Some.ensures)
 
 pub arm-requires : goal.arm-requires
 arm-requires g c =
     let m = g.D.Display.meaning c.args.display.now in
     let w : World = world_of c.args.self.now c.args.memory.now m in
-    let k = c.in-Some.k in
+    let k = c.in-Some.k.index in
     let cat = c.args.header.now.category in
     let n = c.number_at-number.result in
     let e = c.recategorise.ensures m c.args.memory.now in
-    record {
-      within = omega (arith, c.in-Some.ensures.within, c.args.self.now.slots.twelve);
-      fits = c.requires.fits ∙ ap (λ r. 12 * r) (sym (ap (λ (x : World). x.state.room) e ∙ recategorised_room cat n w));
-      sound = subst Sound (sym (ap (λ (x : World). x.state) e ∙ ap (λ j. (recategorised cat j w).state) c.number_at-number.ensures)) (sound_renamed cat k w (name_of_label c.args.header.now.name) (sym c.in-Some.ensures.value) c.requires.sound);
-    }
+    subst Sound (sym (ap (λ (x : World). x.state) e ∙ ap (λ j. (recategorised cat j w).state) c.number_at-number.ensures)) (sound_renamed cat k w (name_of_label c.args.header.now.name) (sym c.in-Some.ensures) c.requires)

@@ -1,15 +1,10 @@
-use Rattle.std.proofs.Common.{Bool, not, ◌&&◌, is_some, ap, ◌∙◌}
+use Rattle.std.proofs.Common.{Bool, not, ◌&&◌, is_some, sym, ap, ◌∙◌}
 use Rattle.slots.specs.Seen.{all_seen}
 use Rattle.slots.specs.Slides.{Slot, numbered}
-use Rattle.receiver.proofs.Looks.{found_any}
+use Rattle.receiver.proofs.Looks.{found_any, index_some, turned}
 use Rattle.receiver.proofs.sieves.RemainingEntryTestTuple2U8U8.passes.Goals as goal
 
-pub returns-in-Some : goal.returns-in-Some
-returns-in-Some g c =
+pub returns : goal.returns
+returns g c =
     let both : Slot → Bool = λ x. g.T.SlotTest.test c.args.self.now.test.now x && numbered c.args.entry.now.load x in
-    ap not (ap is_some c.in-Some.ensures.value ∙ found_any both 0 (all_seen c.args.self.now.slots.now))
-
-pub returns-in-None : goal.returns-in-None
-returns-in-None g c =
-    let both : Slot → Bool = λ x. g.T.SlotTest.test c.args.self.now.test.now x && numbered c.args.entry.now.load x in
-    ap not (ap is_some c.in-None.ensures.value ∙ found_any both 0 (all_seen c.args.self.now.slots.now))
+    turned _ _ c.is_none.ensures ∙ ap not (sym (index_some c.find.result) ∙ ap is_some c.find.ensures ∙ found_any both 0 (all_seen c.args.self.now.slots.now))
