@@ -1,4 +1,5 @@
-// The orders of the two kinds of key: moments, and category places.
+// The orders of the two kinds of key: moments, and category places. Their contracts carry the laws of the two orders, and say
+// that the library's comparison of such keys is that order.
 ghost use Rattle.std.specs.Prelude.{◌≡◌};
 ghost use Rattle.shelf.specs.Kinds.{by_moment, by_place, Later, Further};
 ghost use Rattle.shelf.specs.Places.{above};
