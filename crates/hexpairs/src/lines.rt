@@ -49,3 +49,21 @@ pub fn lines_of<'a>(text: &'a [u8]) -> Lines<'a>
 {
     Lines { left: text }
 }
+
+#[cfg(test)]
+mod tests {
+    use super::*;
+    use std::test::Fail;
+
+    #[test]
+    fn texts(rt: HostRuntime) -> Result<(), Fail> {
+        assert!(rt; lines_of(b"").count() == 0);
+        assert!(rt; lines_of(b"a\n").count() == 1);
+        assert!(rt; lines_of(b"\n\r\n").count() == 2);
+        let texts: [&[u8]; 3] = [b"ab", b"", b"c"];
+        for (line, text) in lines_of(b"ab\n\nc").zip(texts) {
+            assert!(rt; line == text);
+        }
+        Ok(())
+    }
+}

@@ -98,9 +98,7 @@ impl<'a> SlotTest for Versioned<'a> {
 
     fn passes(&self, slot: &Slot) -> bool {
         match slot.state {
-            State::Held(holding) => {
-                slot.name.is(self.name) && holding.version == self.version
-            }
+            State::Held(holding) => { slot.name.is(self.name) && holding.version == self.version }
             _ => false,
         }
     }

@@ -9,13 +9,6 @@ loop-left-preserved-then-is_blank c =
     let some : 0 < length xs = search rules in
     ap (onto (vec_items c.loop-left.bytes)) (sym (past_blank xs some (sym c.if-is_blank.ensures))) ∙ c.loop-left.invariant
 
-pub returns-in_default-byte : goal.returns-in_default-byte
-returns-in_default-byte c =
-    let xs = c.loop-left.left.now in
-    let some : 0 < length xs = search rules in
-    let more : 0 < length (behind xs) = search rules in
-    read_pair (vec_items c.loop-left.bytes) xs _ some more c.if-is_blank.ensures c.in_default-byte.ensures ∙ c.loop-left.invariant
-
 pub loop-left-preserved : goal.loop-left-preserved
 loop-left-preserved c =
     let xs = c.loop-left.left.now in
