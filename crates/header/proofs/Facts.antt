@@ -112,10 +112,3 @@ header_sound xs slot h e =
       expire = good.expire;
       trigger = good.trigger;
     })
-
--- the size that a header states is that of its bytes, which 13 bits can give
-pub header_sized : (xs : List ℕ) (slot : ℕ) (h : HeaderRecord) → header_of xs slot ≡ Ok h → (h.header_size ≡ length xs) × (7 ≤ length xs) × (length xs < 8192)
-header_sized xs slot h e =
-    let (l, p) = cored xs slot h e in
-    let s = p.sized in
-    (ap (λ (g : HeaderRecord). g.header_size) (sym p.is) ∙ s, l, omega arith)

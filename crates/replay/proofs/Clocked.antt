@@ -15,6 +15,7 @@ use Rattle.moment.specs.declared.times.Time.TheVariants as times
 use Rattle.refusal.specs.declared.Fault.{Fault}
 use Rattle.replay.proofs.Stepped.{step_reading}
 use Rattle.replay.specs.Ends.{NoTime}
+use Rattle.rules.proofs.Kept.{recategorised_clock}
 use Rattle.rules.proofs.Finds.{on_some_both, on_arriving_both}
 use Rattle.rules.proofs.Readings.{walk_clock}
 use Rattle.rules.specs.Assembly.{on_landing, segment_of, segment_step}
@@ -40,10 +41,6 @@ armed_clock nothing k w = refl
 armed_clock effect k w = refl
 armed_clock late k w = refl
 armed_clock (wait m) k w = refl
-
-recategorised_clock : (c : Option Category) (n : ℕ) (w : World) → (recategorised c n w).state.clock ≡ w.state.clock
-recategorised_clock None n w = refl
-recategorised_clock (Some c) n w = refl
 
 -- an outcome that leaves the clock
 record Leaves {A : Type 0} (w : World) (o : A × World) : Type 0 where

@@ -52,8 +52,8 @@ use Rattle.rules.proofs.Passes.{getD_vacate}
 use Rattle.slots.proofs.Pieces.{Piece, Pieces, Fits, fit, tight_inside, next_piece, added, completed}
 use Rattle.rules.proofs.Readings.{walk_clock}
 use Rattle.rules.proofs.Choices.{slot_for_some, idle_undone}
-use Rattle.rules.proofs.Kept.{sound_step, sound_recategorised, held_named}
-use Rattle.rules.proofs.Sounds.{at_set, sound_vacate, sound_filtered, sound_walk, sound_received, sound_filed, sound_categorised}
+use Rattle.rules.proofs.Kept.{recategorised_clock, sound_step, sound_recategorised, held_named}
+use Rattle.rules.proofs.Sounds.{placed_state, at_set, sound_vacate, sound_filtered, sound_walk, sound_received, sound_filed, sound_categorised}
 
 -- parts of memory beside a write
 part_is : (a k : ℕ) (m : List ℕ) → part a k m ≡ drop a (take (a + k) m)
@@ -118,11 +118,6 @@ noted_same n l = λ t. record { clock = l.clock; known = fun_ext same t; waiting
   where
     same : (i : ℕ) → cond (eqb i n) (l.known n) (l.known i) ≡ l.known i
     same i = cond_both (eqb i n) (l.known n) (l.known i) (λ y. y ≡ l.known i) (λ e. ap l.known (sym (eqb-true i n e))) (λ e. refl)
-
--- the state with slot k at x, and other numbers
-abbrev placed_state : ℕ → Slot → ℕ → ℕ → List (Entry ℕ) → List (Entry (ℕ × ℕ)) → State → State
-placed_state k x g r ws ps s =
-    record { clock = s.clock; given = g; recent = r; room = s.room; slots = set s.slots k x; waiting = ws; places = ps }
 
 module _ (m : Meaning) (keeps : Keeps m) where
   module _ (w : World) (l : Ledger) (sound : Sound w.state) (h : Follows m w l) where
@@ -355,10 +350,6 @@ module _ (m : Meaning) (keeps : Keeps m) where
   recategorised_slot : (c : Option Category) (n : ℕ) (w : World) (k : ℕ) → slot_at (recategorised c n w).state k ≡ slot_at w.state k
   recategorised_slot None n w k = refl
   recategorised_slot (Some c) n w k = refl
-
-  recategorised_clock : (c : Option Category) (n : ℕ) (w : World) → (recategorised c n w).state.clock ≡ w.state.clock
-  recategorised_clock None n w = refl
-  recategorised_clock (Some c) n w = refl
 
   -- a header says the same whatever the slot size, if it fits
   wider : (xs : List ℕ) (a b : ℕ) (x : HeaderRecord) → a ≤ b → header_of xs a ≡ Ok x → header_of xs b ≡ Ok x

@@ -17,6 +17,8 @@ use Rattle.slots.specs.Slides.{Slot, free, arriving, held, Object, Slide, number
 use Rattle.std.proofs.lemmas.List.{length-take, length-drop}
 use Rattle.std.proofs.lemmas.Bool.{cond-false, cases_eq, ne_eqb, eq-eqb, not-true}
 use Rattle.std.specs.List.{AllByRecursion}
+use Rattle.rules.proofs.Moments.{all_append}
+use Rattle.rules.proofs.Sounds.{freed}
 use Rattle.rules.proofs.Pairs.{Both, none, more, both_kept, both_map, both_all, both_shelved}
 use Rattle.rules.proofs.Passes.{getD_vacate}
 use Rattle.slots.proofs.Pieces.{Pieces}
@@ -73,14 +75,6 @@ pub record Follows (m : Meaning) (w : World) (l : Ledger) : Type 0 where
 pub latest_append : (settle : ℕ → ℕ) (c : Option Card) (xs ys : List Effect) → latest settle c (xs ++ ys) ≡ latest settle (latest settle c xs) ys
 latest_append settle c [] ys = refl
 latest_append settle c (x ∷ xs) ys = latest_append settle (Some (card_of settle x)) xs ys
-
-all_append : {X : Type 0} (P : X → Type 0) (xs ys : List X) → AllByRecursion P xs → AllByRecursion P ys → AllByRecursion P (xs ++ ys)
-all_append P [] ys h k = k
-all_append P (x ∷ xs) ys h k = (h.0, all_append P xs ys h.1 k)
-
-freed : (b : Bool) (x : Slot) (P : Slot → Type 0) → P free → P x → P (cond b free x)
-freed true x P h i = h
-freed false x P h i = i
 
 pub inside : (xs : List Slot) (k : ℕ) (x : Slide) → get_or xs k free ≡ held x → k < length xs
 inside [] k x h = let z : ◌≡◌ {A = ℕ} 0 1 = cc in absurd (omega arith)

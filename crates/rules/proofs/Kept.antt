@@ -35,6 +35,11 @@ use Rattle.rules.proofs.Choices.{slot_for_some}
 use Rattle.rules.proofs.Finds.{found_at, on_some_both, on_arriving_both}
 use Rattle.rules.proofs.Sounds.{sound_vacate, sound_begun, sound_received, sound_filed, sound_categorised, sound_armed, sound_walk, sound_set, arriving_within}
 
+-- a category says nothing of the clock
+pub recategorised_clock : (c : Option Category) (n : ℕ) (w : World) → (recategorised c n w).state.clock ≡ w.state.clock
+recategorised_clock None n w = refl
+recategorised_clock (Some c) n w = refl
+
 -- what a call owes: a sound state, and the next number to a header that is taken
 record Goes (w : World) (c : Call) (o : Reply × World) : Type 0 where
   sound : Sound o.1.state
@@ -116,10 +121,6 @@ module _ (w : World) (h : Sound w.state) where
   recategorised_slot None n k = refl
   recategorised_slot (Some c) n k = refl
 
-  recategorised_clock : (c : Option Category) (n : ℕ) → (recategorised c n w).state.clock ≡ s.clock
-  recategorised_clock None n = refl
-  recategorised_clock (Some c) n = refl
-
   updates : (t : ℕ) (xs : List ℕ) (x : HeaderRecord) → Goes w (header t xs) (answered (update_step w x).0, (update_step w x).1)
   updates t xs x =
       let P : Answer × World → Type 0 = λ o. Goes w (header t xs) (answered o.0, o.1) in
@@ -132,7 +133,7 @@ module _ (w : World) (h : Sound w.state) where
       let w' : World = recategorised x.category n w in
       let sound' : Sound w'.state = subst (λ j. Sound (recategorised x.category j w).state) (sym e) (sound_recategorised x.category k w y i h) in
       record {
-        sound = sound_armed v k w' y (recategorised_slot x.category n k ∙ i) (λ m q. subst (λ c. c < m) (sym (recategorised_clock x.category n)) (later_than s.clock x.trigger m q)) sound';
+        sound = sound_armed v k w' y (recategorised_slot x.category n k ∙ i) (λ m q. subst (λ c. c < m) (sym (recategorised_clock x.category n w)) (later_than s.clock x.trigger m q)) sound';
         rises = λ ns j. subst (CountOn s.given) (sym (quiet_update v n ns)) (subst (λ g. CountOn g ns) (armed_given v k w' ∙ recategorised_given x.category n) j);
       })
 

@@ -25,7 +25,7 @@ pub record Rising (c : ℕ) (h : List Effect) : Type 0 where
   pub rising : NeverFalls (map at h)
   pub within : AllByRecursion (λ x. x.moment ≤ c) h
 
-all_append : {X : Type 0} (P : X → Type 0) (xs ys : List X) → AllByRecursion P xs → AllByRecursion P ys → AllByRecursion P (xs ++ ys)
+pub all_append : {X : Type 0} (P : X → Type 0) (xs ys : List X) → AllByRecursion P xs → AllByRecursion P ys → AllByRecursion P (xs ++ ys)
 all_append P [] ys h k = k
 all_append P (x ∷ xs) ys h k = (h.0, all_append P xs ys h.1 k)
 

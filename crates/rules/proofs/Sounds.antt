@@ -35,12 +35,9 @@ from_freed : (b : Bool) (z : Slot) (x : Slide) → cond b free z ≡ held x → 
 from_freed true z x e = absurd (let q : ◌≡◌ {A = ℕ} 0 1 = cc in omega arith)
 from_freed false z x e = (refl, e)
 
-freed : (b : Bool) (x : Slot) (P : Slot → Type 0) → P free → P x → P (cond b free x)
+pub freed : (b : Bool) (x : Slot) (P : Slot → Type 0) → P free → P x → P (cond b free x)
 freed true x P h i = h
 freed false x P h i = i
-
-held_free : is_held free ≡ true → ⊥
-held_free e = both_ways false refl e
 
 -- the laws of the waiting triggers, and of the places
 pub record Waits (c : ℕ) (xs : List Slot) (ws : List (Entry ℕ)) : Type 0 where
@@ -135,7 +132,7 @@ more_given c g g' S (arriving o) le h = (h.0, omega (arith, h.1), h.2, h.3, h.4,
 more_given c g g' S (held x) le h = (h.0, omega (arith, h.1), h.2, h.3, h.4)
 
 -- slot k comes to hold x
-abbrev placed_state : ℕ → Slot → ℕ → ℕ → List (Entry ℕ) → List (Entry (ℕ × ℕ)) → State → State
+abbrev pub placed_state : ℕ → Slot → ℕ → ℕ → List (Entry ℕ) → List (Entry (ℕ × ℕ)) → State → State
 placed_state k x g r ws ps s =
     record { clock = s.clock; given = g; recent = r; room = s.room; slots = set s.slots k x; waiting = ws; places = ps }
 

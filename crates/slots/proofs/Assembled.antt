@@ -22,9 +22,6 @@ module _ (base B : ℕ) (m : List ℕ) where
       ap (received_all base (begun B m)) (map_more sent_of ss i d h)
       ∙ received_append base (begun B m) (map sent_of (take i ss)) (sent_of (get_or ss i d) ∷ [])
 
-  pub assembled_all : (ss : List Sent) (i : ℕ) → length ss ≤ i → assembled base B m (take i ss) ≡ assembled base B m ss
-  assembled_all ss i h = ap (assembled base B m) (take_all i ss h)
-
   pub assembled_stands : (ss : List Sent) → base + B ≤ length m → Stands base B m (assembled base B m ss)
   unfolding assembled
   assembled_stands ss room = stands_all base B m (begun B m) (stands_begun base B m room) (map sent_of ss)

@@ -11,7 +11,3 @@ module _ {A B : Type 0} (f : A → B) (xs : List A) (k : ℕ) where
   pub same_map : (d y : A) → k < length xs → f y ≡ f (get_or xs k d) → map f (set xs k y) ≡ map f xs
   same_map d y h e =
       write_map y (get_or (map f xs) k (f d)) (e ∙ sym (get_or-map f xs k d (f d) h)) ∙ set-get_or (map f xs) k (f d)
-
-  -- past the end nothing changes
-  pub past_map : (z : B) → length xs ≤ k → map f xs ≡ set (map f xs) k z
-  past_map z h = sym (set_past (map f xs) k z (omega (arith, length-map xs f)))

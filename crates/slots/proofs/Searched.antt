@@ -31,8 +31,3 @@ module _ {A : Type 0} (see : A → Slot) (xs : List A) where
 
     pub free_later : is_free (see (get_or xs k d)) ≡ false → free_from (map see xs) (n - i) k ≡ free_from (map see xs) (n - (i + 1)) (next k)
     free_later h = turn ∙ cond-false (is_free (see (get_or xs k d))) (Some k) _ h
-
-  pub free_none : (n i k : ℕ) → n ≤ i → free_from (map see xs) (n - i) k ≡ None
-  free_none n i k h =
-      let e : n - i ≡ 0 = omega arith in
-      ap (λ (j : ℕ). free_from (map see xs) j k) e

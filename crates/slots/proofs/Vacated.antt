@@ -16,9 +16,3 @@ module _ (test : Slot → Bool) (xs : List Slot) where
   upto_more see rs i d y there within so e =
       let x = see (get_or rs i d) in
       write_map see rs i y _ e ∙ map_over_more (λ (z : Slot). cond (test z) free z) xs (map see rs) i x within so (sym (get_or-map see rs i d x there))
-
-  pub upto_all : (i : ℕ) → length xs ≤ i → upto i ≡ vacated test xs
-  upto_all i h =
-      ap (λ (z : List Slot). vacated test z ++ drop i xs) (take_all i xs h)
-      ∙ ap (λ (z : List Slot). vacated test xs ++ z) (drop_all i xs h)
-      ∙ append-nil (vacated test xs)
