@@ -1,5 +1,5 @@
 -- The slide that an update is for, and the state once its category is set.
-use Rattle.std.proofs.Common.{◌≡◌, ℕ, true, Some, None, Option, sym, refl, ap, ◌∙◌, subst}
+use Rattle.std.proofs.Common.{◌≡◌, ℕ, true, Some, Option, sym, refl, ap, ◌∙◌, subst}
 use Rattle.header.specs.Names.{NameRecord}
 use Rattle.header.specs.declared.kinds.Category.{Category}
 use Rattle.rules.proofs.Filters.{any_at}
@@ -18,10 +18,6 @@ held_number s k x i =
 
 pub named_number : (s : State) (a : NameRecord) (k : ℕ) → first_slot (named a) s.slots ≡ Some k → any (numbered (number_in (slot_at s k))) s.slots ≡ true
 named_number s a k e = let (x, i) = held_named s a k e in held_number s k x i
-
-pub recategorised_room : (c : Option Category) (n : ℕ) (w : World) → (recategorised c n w).state.room ≡ w.state.room
-recategorised_room None n w = refl
-recategorised_room (Some c) n w = refl
 
 pub sound_renamed : (c : Option Category) (k : ℕ) (w : World) (a : NameRecord) → first_slot (named a) w.state.slots ≡ Some k → Sound w.state → Sound (recategorised c (number_in (slot_at w.state k)) w).state
 sound_renamed c k w a e h =

@@ -52,7 +52,7 @@ use Rattle.rules.proofs.Passes.{getD_vacate}
 use Rattle.slots.proofs.Pieces.{Piece, Pieces, Fits, fit, tight_inside, next_piece, added, completed}
 use Rattle.rules.proofs.Readings.{walk_clock}
 use Rattle.rules.proofs.Choices.{slot_for_some, idle_undone}
-use Rattle.rules.proofs.Kept.{recategorised_clock, sound_step, sound_recategorised, held_named}
+use Rattle.rules.proofs.Kept.{sound_step, sound_recategorised, held_named}
 use Rattle.rules.proofs.Sounds.{placed_state, at_set, sound_vacate, sound_filtered, sound_walk, sound_received, sound_filed, sound_categorised}
 
 -- parts of memory beside a write

@@ -1,6 +1,6 @@
 -- The ledger: what took effect and what waits, worked out from the calls, their arguments and their answers alone.
 -- It sees no slot, no memory and no display.
-use Rattle.std.specs.Prelude.{ℕ, zero, suc, ◌-◌, ◌^◌, Bool, cond, not, List, [], ◌∷◌, ◌++◌, map, None, Ok, Err, filter, Option, Result, ◌==◌, nat_eq, nat_le}
+use Rattle.std.specs.Prelude.{ℕ, zero, suc, ◌-◌, ◌^◌, Bool, cond, not, List, [], ◌∷◌, ◌++◌, map, None, Ok, Err, filter, Option, Result, ◌==◌, nat_le}
 use Rattle.header.specs.Headers.{HeaderRecord, header_of}
 use Rattle.header.specs.Names.{NameRecord, same_name}
 use Rattle.moment.specs.Field.{time_of}
@@ -46,7 +46,7 @@ effect_of l m n = record { number = n; moment = m; body = body_in (l.known n) }
 -- the clock comes to t, and the triggers of that moment take effect
 abbrev pub happen : ℕ → Ledger → Ledger
 happen t l =
-    record { clock = t; known = l.known; waiting = filter (λ e. not (e.key == t)) l.waiting; history = l.history ++ map (λ e. effect_of l e.key e.load) (filter (λ e. nat_eq e.key t) l.waiting) }
+    record { clock = t; known = l.known; waiting = filter (λ e. not (e.key == t)) l.waiting; history = l.history ++ map (λ e. effect_of l e.key e.load) (filter (λ e. e.key == t) l.waiting) }
 
 -- one moment: expiries first, then triggers; and n moments
 unfoldable pub instant : Ledger → Ledger

@@ -1,5 +1,5 @@
 -- The receiver's state, body memory and display, and what befalls them.
-use Rattle.std.specs.Prelude.{ℕ, ◌*◌, Bool, false, cond, not, ◌&&◌, ◌||◌, List, [], ◌∷◌, map, length, Some, None, filter, Option, ◌==◌, nat_eq, slice_index_or, slice_set}
+use Rattle.std.specs.Prelude.{ℕ, ◌*◌, Bool, false, cond, not, ◌&&◌, ◌||◌, List, [], ◌∷◌, map, length, Some, None, filter, Option, ◌==◌, slice_index_or, slice_set}
 use Rattle.display.specs.Meaning.{Meaning, showed}
 use Rattle.header.specs.declared.kinds.Category.{Category}
 use Rattle.rules.specs.Triggers.{Verdict, nothing, effect, late, wait, Effect}
@@ -75,7 +75,7 @@ effect_at w m k = record { number = number_in (slot_at w.state k); moment = m; b
 
 -- the triggers of moment t
 abbrev pub due : ℕ → List (Entry ℕ) → List (Entry ℕ)
-due t ws = filter (λ e. nat_eq e.key t) ws
+due t ws = filter (λ e. e.key == t) ws
 
 -- the clock comes to t, and the triggers of that moment take effect in their order
 abbrev pub fire : ℕ → World → World
