@@ -5,10 +5,13 @@ use Rattle.rules.proofs.Passes.{kept_same, getD_vacate}
 use Rattle.rules.proofs.Sounds.{at_set, sound_vacate, sound_received, sound_filed, arriving_within}
 use Rattle.rules.specs.Assembly.{put}
 use Rattle.rules.specs.Soundness.{Sound}
-use Rattle.rules.specs.Worlds.{State, slot_at, any, vacate}
-use Rattle.slots.specs.Segments.{grown, complete, after_segment}
+use Rattle.rules.specs.Worlds.{State, slot_at, any, vacate, holding}
+use Rattle.slots.specs.Segments.{complete, landing, after_landing, after_segment}
 use Rattle.slots.specs.Slides as slides
-use Rattle.slots.specs.Slides.{Slot, Object, free, arriving, held, named, numbered, slide_of, with_progress, filed_if, moved}
+use Rattle.slots.specs.Slides.{Slot, Object, free, arriving, held, named, numbered, slide_of, filed_if, moved}
+use Rattle.slots.specs.declared.progress.Landing.{Landing}
+use Rattle.slots.specs.declared.progress.Landing.TheVariants.{Misfit, Again, At}
+use Rattle.slots.specs.declared.progress.Progress.{Progress}
 use Rattle.slots.specs.declared.progress.Segment.{Segment}
 use Rattle.std.proofs.lemmas.List.{get_or-set_same}
 use lib.Seq.{map-set}
@@ -42,10 +45,18 @@ vacate_put test s k x y h a b =
       places = kept_same (λ e. not (any (both e.load) (set xs k x))) (λ e. not (any (both e.load) xs)) (λ e. ap not (any_same (both e.load) xs k x h (ap (λ c. c && numbered e.load x) a) (ap (λ c. c && numbered e.load (slot_at s k)) b))) s.places i;
     }
 
--- a complete object moves to its slide
-pub moved_held : (o : Object) (g : Segment) → after_segment o.progress g ≡ grown o.progress g → complete (grown o.progress g) ≡ true → moved (slides.segment g) (arriving o) ≡ held (slide_of (more o g))
-moved_held o g e c =
-    ap (λ q. filed_if (complete q) (with_progress o q)) e ∙ ap (λ b. filed_if b (more o g)) c
+-- a segment leaves an object's size
+size_after : (l : Landing) (p : Progress) (g : Segment) → (after_landing l p g).size ≡ p.size
+size_after Misfit p g = refl
+size_after Again p g = refl
+size_after (At at) p g = refl
+
+-- a complete object moves to its slide, another goes on arriving
+moved_held : (o : Object) (g : Segment) → complete (after_segment o.progress g) ≡ true → moved (slides.segment g) (arriving o) ≡ held (slide_of (more o g))
+moved_held o g c = ap (λ b. filed_if b (more o g)) c
+
+pub moved_on : (o : Object) (g : Segment) → complete (after_segment o.progress g) ≡ false → moved (slides.segment g) (arriving o) ≡ arriving (more o g)
+moved_on o g c = ap (λ b. filed_if b (more o g)) c
 
 module _ (s : State) (k : ℕ) (o : Object) (g : Segment) (i : slot_at s k ≡ arriving o) (lt : k < length s.slots) where
   -- the slot with the segment, and then the slide
@@ -55,16 +66,25 @@ module _ (s : State) (k : ℕ) (o : Object) (g : Segment) (i : slot_at s k ≡ a
   abbrev filed_state : State
   filed_state = put k (held (slide_of (more o g))) (vacate (named o.image.name) arrived)
 
-  pub still_arriving : slot_at (vacate (named o.image.name) s) k ≡ arriving o
+  still_arriving : slot_at (vacate (named o.image.name) s) k ≡ arriving o
   still_arriving = getD_vacate (named o.image.name) s.slots k ∙ ap (λ z. cond (named o.image.name z) free z) i
 
-  pub held_next : put k (held (slide_of (more o g))) (vacate (named o.image.name) s) ≡ filed_state
+  held_next : put k (held (slide_of (more o g))) (vacate (named o.image.name) s) ≡ filed_state
   held_next =
       sym (vacate_put (named o.image.name) s k (arriving (more o g)) (held (slide_of (more o g))) lt refl (ap (named o.image.name) i))
 
+  -- so the slot is freed of the held slide of that name, and then comes to hold the new one
+  pub held_by : (v : State) (xs : List Slot) → v ≡ vacate (named o.image.name) s → complete (after_segment o.progress g) ≡ true → xs ≡ set v.slots k (moved (slides.segment g) (slot_at v k)) → holding xs v.waiting v.places v ≡ filed_state
+  held_by v xs e c q =
+      ap (λ zs. holding zs v.waiting v.places v) q
+      ∙ (ap (λ u. put k (moved (slides.segment g) (slot_at u k)) u) e
+      ∙ (ap (λ z. put k (moved (slides.segment g) z) (vacate (named o.image.name) s)) still_arriving
+      ∙ (ap (λ z. put k z (vacate (named o.image.name) s)) (moved_held o g c)
+      ∙ held_next)))
+
   module _ (h : Sound s) where
     pub sound_arrived : Sound arrived
-    sound_arrived = sound_received s k o i h (grown o.progress g) refl
+    sound_arrived = sound_received s k o i h (after_segment o.progress g) (size_after (landing o.progress g) o.progress g)
 
     pub sound_next : Sound filed_state
     sound_next = sound_filed k (more o g) arrived (get_or-set_same s.slots k (arriving (more o g)) free lt) sound_arrived

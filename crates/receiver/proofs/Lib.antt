@@ -10,3 +10,6 @@ mod Headed
 mod Holds
 mod Segmented
 mod Insides
+mod Keeps
+mod Placed
+mod Tellings

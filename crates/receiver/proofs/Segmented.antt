@@ -11,7 +11,7 @@ use Rattle.slots.proofs.Landings.{lands}
 use Rattle.slots.proofs.Pieces.{fit, tight_inside, next_piece}
 use Rattle.slots.specs.Contents.{object_in}
 use Rattle.slots.specs.Searches.{first_slot}
-use Rattle.slots.specs.Segments.{landing, piece_with}
+use Rattle.slots.specs.Segments.{landing, grown, piece_with, after_segment, after_landing}
 use Rattle.slots.specs.Slides.{Slot, Object, free, arriving, held, comes}
 use Rattle.slots.specs.declared.progress.Landing.{Landing}
 use Rattle.slots.specs.declared.progress.Landing.TheVariants.{At}
@@ -62,6 +62,10 @@ lands_within p g at e =
     let l = lands p g at (sym e) in
     let f = fit p.piece p.size g.number g.last g.length l.fitting in
     omega (arith, l.place, f.off, tight_inside g.last p.size g.number g.length (piece_with p.size g.number g.last g.length) f.tight)
+
+-- and is taken
+pub lands_grown : (p : Progress) (g : Segment) (at : ℕ) → At at ≡ landing p g → after_segment p g ≡ grown p g
+lands_grown p g at e = ap (λ l. after_landing l p g) (sym e)
 
 -- so it lies within body memory
 pub lands_in_memory : (s : State) → Sound s → (k : ℕ) (o : Object) → slot_at s k ≡ arriving o → k < 12 → (g : Segment) (at : ℕ) → At at ≡ landing o.progress g → k * s.room + at + g.length ≤ 12 * s.room

@@ -1,11 +1,10 @@
 -- The slide that an update is for, and the state once its category is set.
-use Rattle.std.proofs.Common.{◌≡◌, ℕ, true, Some, Option, sym, refl, ap, ◌∙◌, subst}
+use Rattle.std.proofs.Common.{Some, None, ◌≡◌, ℕ, true, Some, Option, refl, ap, ◌∙◌}
 use Rattle.header.specs.Names.{NameRecord}
 use Rattle.header.specs.declared.kinds.Category.{Category}
 use Rattle.rules.proofs.Filters.{any_at}
-use Rattle.rules.proofs.Kept.{held_named, sound_recategorised}
-use Rattle.rules.specs.Headers.{recategorised}
-use Rattle.rules.specs.Soundness.{Sound}
+use Rattle.rules.proofs.Kept.{held_named}
+use Rattle.rules.specs.Headers.{is_held, recategorised}
 use Rattle.rules.specs.Worlds.{State, World, slot_at, any}
 use Rattle.slots.specs.Searches.{first_slot}
 use Rattle.slots.specs.Slides.{Slide, held, named, numbered, number_in}
@@ -19,7 +18,7 @@ held_number s k x i =
 pub named_number : (s : State) (a : NameRecord) (k : ℕ) → first_slot (named a) s.slots ≡ Some k → any (numbered (number_in (slot_at s k))) s.slots ≡ true
 named_number s a k e = let (x, i) = held_named s a k e in held_number s k x i
 
-pub sound_renamed : (c : Option Category) (k : ℕ) (w : World) (a : NameRecord) → first_slot (named a) w.state.slots ≡ Some k → Sound w.state → Sound (recategorised c (number_in (slot_at w.state k)) w).state
-sound_renamed c k w a e h =
-    let (x, i) = held_named w.state a k e in
-    subst (λ n. Sound (recategorised c n w).state) (sym (ap number_in i)) (sound_recategorised c k w x i h)
+-- and its slot holds it still once its category is set
+pub named_held : (c : Option Category) (n k : ℕ) (w : World) (a : NameRecord) → first_slot (named a) w.state.slots ≡ Some k → is_held (slot_at (recategorised c n w).state k) ≡ true
+named_held None n k w a e = let (x, i) = held_named w.state a k e in ap is_held i
+named_held (Some c) n k w a e = let (x, i) = held_named w.state a k e in ap is_held i

@@ -10,8 +10,9 @@ use Rattle.rules.specs.declared.answers.Answer.{Answer}
 use Rattle.rules.specs.declared.answers.Answer.TheVariants.{Taken}
 use Rattle.slots.specs.Contents.{object_in}
 use Rattle.slots.specs.Seen.{object_of, all_names}
-use Rattle.slots.specs.Segments.{grown, complete}
+use Rattle.slots.specs.Segments.{after_segment, complete}
 use Rattle.slots.specs.Slides.{Object, arriving, with_progress}
+use Rattle.slots.specs.declared.progress.Progress.{Progress}
 use Rattle.slots.specs.declared.progress.Segment.{Segment}
 use Rattle.slots.specs.declared.records.Arrival.{Arrival}
 
@@ -25,13 +26,17 @@ Arrives p k (Some a) = slot_at (state_of p) k ≡ arriving (object_at p k a)
 
 -- the object with a segment
 abbrev pub more : Object → Segment → Object
-more o g = with_progress o (grown o.progress g)
+more o g = with_progress o (after_segment o.progress g)
 
 -- slot k with the segment, whose bytes are in memory already
 abbrev pub with_segment : ℕ → Object → Segment → World → World
 with_segment k o g w = with_state (put k (arriving (more o g)) w.state) w
 
--- a segment whose bytes are in memory: with the last one missing the slide is filed
+-- an object that has come so far, its bytes in memory: with the last one missing the slide is filed
+abbrev pub come_to : ℕ → Object → Progress → World → Answer × World
+come_to k o q w =
+    cond (complete q) (told_filing (verdict w.state.clock o.image.trigger) o.number, filed k (with_progress o q) (with_state (put k (arriving (with_progress o q)) w.state) w)) (Taken o.number, with_state (put k (arriving (with_progress o q)) w.state) w)
+
+-- a segment whose bytes are in memory
 abbrev pub laid : ℕ → Object → Segment → World → Answer × World
-laid k o g w =
-    cond (complete (grown o.progress g)) (told_filing (verdict w.state.clock o.image.trigger) o.number, filed k (more o g) (with_segment k o g w)) (Taken o.number, with_segment k o g w)
+laid k o g w = come_to k o (after_segment o.progress g) w

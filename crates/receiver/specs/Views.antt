@@ -1,19 +1,17 @@
--- The receiver's plain data as the rules see it. What lies behind a rack's count, or beside a free slot, is not seen.
+-- The receiver's plain data as the rules see it.
 use Rattle.std.specs.Prelude.{ℕ, List, [], replicate, Ok, Err, Result}
 use Rattle.display.specs.Meaning.{Meaning}
-use Rattle.rack.specs.Listed.{triggers, filed}
+use Rattle.receiver.specs.States.{state_from}
 use Rattle.receiver.specs.declared.parts.Parts.{Parts}
 use Rattle.refusal.specs.declared.Fault.{Fault}
 use Rattle.rules.specs.Calls.{Reply, counted, refused}
 use Rattle.rules.specs.Worlds.{State, World}
 use Rattle.rules.specs.declared.answers.Answer.{Answer}
 use Rattle.rules.specs.declared.answers.Answer.TheVariants.{Refused}
-use Rattle.slots.specs.Seen.{all_seen}
 use Rattle.slots.specs.Slides.{free}
 
 abbrev pub state_of : Parts → State
-state_of p =
-    record { clock = p.clock; given = p.given; recent = p.recent.index; room = p.room; slots = all_seen p.slots; waiting = triggers p.waiting; places = filed p.places }
+state_of p = state_from p.clock p.given p.recent p.room p.slots p.waiting p.places
 
 -- before the first call: the first slot given will be slot 0
 abbrev pub fresh_state : ℕ → State

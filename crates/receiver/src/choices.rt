@@ -39,6 +39,7 @@ impl Parts {
     pub(crate) fn oldest(&self) -> Option<SlotIndex>
         ensures { index_of result ≡ oldest_from (state_of self.now) 0 (all_seen self.now.slots) None }
     {
+        // the best one so far is compared through the receiver: no plainer as a chain
         let mut best = None;
         for index in 0..12 {
             if let Some(k) = SlotIndex::new(index)

@@ -5,7 +5,6 @@ ghost use Rattle.receiver.specs.Views.{state_of, world_of};
 ghost use Rattle.rules.specs.Calls.{counted};
 ghost use Rattle.rules.specs.Clocks.{prepared, set_to};
 ghost use Rattle.rules.specs.Passes.{seen, shot, passed_to};
-ghost use Rattle.rules.specs.Soundness.{Sound};
 ghost use Rattle.rules.specs.Worlds.{slot_at, show_all};
 ghost use Rattle.slots.specs.Slides.{ends};
 
@@ -16,6 +15,8 @@ use shelf::entries::Entry;
 use slots::indices::SlotIndex;
 use slots::sought::Ending;
 
+// Display and body memory stay two arguments here and in the files beside: of a display that a struct lends on, the checker
+// does not know afterwards what it shows.
 impl Parts {
     // Whether what is in slot k has expired by a moment.
     fn ends_by(&self, k: SlotIndex, moment: u64) -> bool
@@ -49,7 +50,6 @@ impl Parts {
 
     // Shows what takes effect by a moment, each slide from its trigger's own moment on, and answers how many.
     fn show_due<D: Display>(&self, display: &mut D, memory: &[u8], moment: u64) -> usize
-        requires { Sound (state_of self.now) }
         ensures count { result ≡ length (filter (seen (state_of self.now) moment) (state_of self.now).waiting) }
         ensures shows { D.Display.meaning display.new ≡ show_all (D.Display.meaning display.old) (map (shot (world_of self.now memory.now (D.Display.meaning display.old))) (filter (seen (state_of self.now) moment) (state_of self.now).waiting)) }
     {
@@ -65,7 +65,6 @@ impl Parts {
 
     // The clock comes to a moment: what takes effect by then is shown, what has expired by then goes.
     pub(crate) fn pass<D: Display>(&mut self, display: &mut D, memory: &[u8], moment: u64) -> usize
-        requires { Sound (state_of self.old) }
         ensures count { result ≡ length (filter (seen (state_of self.old) moment) (state_of self.old).waiting) }
         ensures world { world_of self.new memory.now (D.Display.meaning display.new) ≡ passed_to moment (world_of self.old memory.now (D.Display.meaning display.old)) }
     {
@@ -91,7 +90,6 @@ impl Parts {
         memory: &[u8],
         moment: u64,
     ) -> usize
-        requires { Sound (state_of self.old) }
         ensures { (counted result, world_of self.new memory.now (D.Display.meaning display.new)) ≡ set_to moment (world_of self.old memory.now (D.Display.meaning display.old)) }
     {
         self.prepare(moment);

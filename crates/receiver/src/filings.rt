@@ -4,16 +4,14 @@ ghost use Rattle.header.specs.Kept.{no_name};
 ghost use Rattle.receiver.specs.Arrivals.{object_at, more, with_segment, laid};
 ghost use Rattle.receiver.specs.Views.{state_of, world_of};
 ghost use Rattle.rules.specs.Assembly.{put, filed, told_filing};
-ghost use Rattle.rules.specs.Soundness.{Sound};
 ghost use Rattle.rules.specs.Triggers.{verdict};
 ghost use Rattle.rules.specs.Worlds.{slot_at, vacate};
 ghost use Rattle.slots.specs.Seen.{all_names};
-ghost use Rattle.slots.specs.Segments.{after_segment, grown, complete};
+ghost use Rattle.slots.specs.Segments.{after_segment, complete};
 ghost use Rattle.slots.specs.Slides.{arriving, held, named, slide_of};
 
 use crate::parts::Parts;
 use crate::sieves::Called;
-use crate::verdicts::Verdict;
 use display::Display;
 use rules::answers::Answer;
 use slots::indices::SlotIndex;
@@ -21,19 +19,12 @@ use slots::progress::Segment;
 use slots::records::{Arrival, Event};
 
 impl Parts {
-    // Releases the held slide of the object's name, and lets the object in slot k, complete with this segment, be held.
-    fn hold(&mut self, k: SlotIndex, arrival: Arrival, segment: Segment)
-        requires arrives { slot_at (state_of self.old) k.index ≡ arriving (object_at self.old k.index arrival) }
-        requires lands { after_segment arrival.progress segment ≡ grown arrival.progress segment }
-        requires complete { complete (grown arrival.progress segment) ≡ true }
-        ensures { state_of self.new ≡ put k.index (held (slide_of (more (object_at self.old k.index arrival) segment))) (vacate (named (slice_index_or (all_names self.old.slots) k.index no_name)) (put k.index (arriving (more (object_at self.old k.index arrival) segment)) (state_of self.old))) }
-    {
-        let name = self.name_at(k);
-        self.vacate(&Called(name));
-        self.slots.on(k.get(), Event::Segment(segment));
-    }
+    // Slot, arrival and segment stay three arguments: each is used on its own, and what is required of them is said of this
+    // receiver, which a struct of the three could not say.
 
-    // Files the slide in slot k, complete with this segment: its category is set and its trigger armed.
+    // Files the slide in slot k, complete with this segment: the held slide of its name is released, its category is set and
+    // its trigger armed.
+    #[tactic(auto, using(crate::proofs::Tellings::filing_told))]
     fn file<D: Display>(
         &mut self,
         display: &mut D,
@@ -42,18 +33,16 @@ impl Parts {
         arrival: Arrival,
         segment: Segment,
     ) -> Answer
-        requires sound { Sound (state_of self.old) }
         requires arrives { slot_at (state_of self.old) k.index ≡ arriving (object_at self.old k.index arrival) }
-        requires lands { after_segment arrival.progress segment ≡ grown arrival.progress segment }
-        requires complete { complete (grown arrival.progress segment) ≡ true }
+        requires complete { complete (after_segment arrival.progress segment) ≡ true }
         ensures answer { result ≡ told_filing (verdict self.old.clock arrival.trigger) arrival.number }
         ensures world { world_of self.new memory.now (D.Display.meaning display.new) ≡ filed k.index (more (object_at self.old k.index arrival) segment) (with_segment k.index (object_at self.old k.index arrival) segment (world_of self.old memory.now (D.Display.meaning display.old))) }
     {
-        let verdict = Verdict::at(self.clock, arrival.trigger);
-        self.hold(k, arrival, segment);
+        self.vacate(&Called(self.name_at(k)));
+        self.slots.on(k.get(), Event::Segment(segment));
         self.categorise(arrival.category, arrival.number);
-        self.arm(display, memory, k, verdict);
-        verdict.told_filing(arrival.number)
+        self.arm(display, memory, k, arrival.trigger)
+            .told(arrival.number, Answer::Filed(arrival.number))
     }
 
     // Lets the object in slot k take a segment whose bytes are in memory.
@@ -65,9 +54,7 @@ impl Parts {
         arrival: Arrival,
         segment: Segment,
     ) -> Answer
-        requires sound { Sound (state_of self.old) }
-        requires arrives { slot_at (state_of self.old) k.index ≡ arriving (object_at self.old k.index arrival) }
-        requires lands { after_segment arrival.progress segment ≡ grown arrival.progress segment }
+        requires { slot_at (state_of self.old) k.index ≡ arriving (object_at self.old k.index arrival) }
         ensures { (result, world_of self.new memory.now (D.Display.meaning display.new)) ≡ laid k.index (object_at self.old k.index arrival) segment (world_of self.old memory.now (D.Display.meaning display.old)) }
     {
         let mut progress = arrival.progress;

@@ -2,7 +2,6 @@
 ghost use Rattle.std.specs.Prelude.{◌≡◌};
 ghost use Rattle.receiver.specs.Views.{state_of, world_of, said};
 ghost use Rattle.rules.specs.Headers.{header_step};
-ghost use Rattle.rules.specs.Soundness.{Sound};
 
 use crate::parts::Parts;
 use display::Display;
@@ -20,7 +19,6 @@ impl Parts {
         transport: u16,
         bytes: &[u8],
     ) -> Result<Answer, Fault>
-        requires { Sound (state_of self.old) }
         ensures { (said result, world_of self.new memory.now (D.Display.meaning display.new)) ≡ header_step (world_of self.old memory.now (D.Display.meaning display.old)) transport bytes.now }
     {
         self.admit(memory)?;

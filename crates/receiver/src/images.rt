@@ -1,15 +1,15 @@
 // What an image header does.
-ghost use Rattle.std.specs.Prelude.{◌≡◌, ℕ, ◌<◌, ◌≤◌, not, List, length, filter, slice_index_or};
+ghost use Rattle.std.specs.Prelude.{◌≡◌, ℕ, ◌<◌, ◌≤◌, not, List, false, filter, slice_index_or};
 ghost use Rattle.display.specs.Meaning.{Meaning};
 ghost use Rattle.header.specs.Finds.{name_of_label};
 ghost use Rattle.header.specs.Headers.{record_of};
 ghost use Rattle.header.specs.Kept.{name_of};
 ghost use Rattle.rack.specs.Listed.{filed};
+ghost use Rattle.receiver.specs.Images.{AnnouncesImage};
 ghost use Rattle.receiver.specs.Views.{state_of, world_of};
 ghost use Rattle.rules.specs.Headers.{begun, new_image, image_step};
-ghost use Rattle.rules.specs.Soundness.{Sound};
 ghost use Rattle.slots.specs.Seen.{all_seen};
-ghost use Rattle.slots.specs.Slides.{free, image_of, numbered};
+ghost use Rattle.slots.specs.Slides.{free, image_of, numbered, passed};
 
 use crate::faults::{EXPIRY_NOT_AHEAD, NO_SLOT_TO_USE};
 use crate::parts::Parts;
@@ -42,6 +42,8 @@ impl Parts {
     pub(crate) fn begin(&mut self, k: SlotIndex, transport: u16, header: &Header<'_>, name: Name)
         requires number { self.old.given < 4294967295 }
         requires name { name_of name ≡ name_of_label header.now.name }
+        requires fits { (0 < header.now.body_size) × (header.now.body_size ≤ self.old.room) }
+        requires lasts { passed self.old.clock header.now.expire ≡ false }
         ensures { state_of self.new ≡ begun k.index transport (image_of (record_of header.now)) (state_of self.old) }
     {
         forget(&mut self.places, &self.slots, k);
@@ -54,8 +56,7 @@ impl Parts {
 
     // Begins the object of a new image: it must expire above the clock, and there must be a slot and a number for it.
     pub(crate) fn new_image(&mut self, transport: u16, header: &Header<'_>) -> Answer
-        requires sound { Sound (state_of self.old) }
-        requires named { (0 < length header.now.name.bytes.now) × (length header.now.name.bytes.now ≤ 64) }
+        requires { AnnouncesImage self.old.room (record_of header.now) }
         ensures { (m : Meaning) (memory : List ℕ) → (result, world_of self.new memory m) ≡ new_image (world_of self.old memory m) transport (image_of (record_of header.now)) }
     {
         if passed(self.clock, header.expire) {
@@ -76,8 +77,7 @@ impl Parts {
 
     // Takes an image header: a repeat if a slide of its name and version is held, or if it arrives just so.
     pub(crate) fn image(&mut self, transport: u16, header: &Header<'_>) -> Answer
-        requires sound { Sound (state_of self.old) }
-        requires named { (0 < length header.now.name.bytes.now) × (length header.now.name.bytes.now ≤ 64) }
+        requires { AnnouncesImage self.old.room (record_of header.now) }
         ensures { (m : Meaning) (memory : List ℕ) → (result, world_of self.new memory m) ≡ image_step (world_of self.old memory m) transport (image_of (record_of header.now)) }
     {
         let versioned = Versioned {

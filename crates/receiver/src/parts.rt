@@ -1,10 +1,13 @@
 // The receiver's plain data.
+ghost use Rattle.receiver.specs.States.{state_from};
+ghost use Rattle.rules.specs.Soundness.{Sound};
+
 use rack::racks::{Places, Waiting};
 use slots::indices::SlotIndex;
 use slots::records::Slots;
 
 // The clock (0 until it is set), how many accession numbers were given, the slot given last, the slot size, the slots, the
-// waiting triggers and the category places.
+// waiting triggers and the category places. They are sound together: what the rules keep of a state is a fact of the type.
 #[derive(Drop)]
 pub(crate) struct Parts {
     pub(crate) clock: u64,
@@ -14,4 +17,5 @@ pub(crate) struct Parts {
     pub(crate) slots: Slots,
     pub(crate) waiting: Waiting,
     pub(crate) places: Places,
+    ghost sound: { ∥ Sound (state_from clock given recent room slots waiting places) ∥₁ },
 }

@@ -6,7 +6,6 @@ ghost use Rattle.receiver.specs.Bodies.{bytes_of};
 ghost use Rattle.receiver.specs.Receivers.{world};
 ghost use Rattle.receiver.specs.Views.{state_of, world_of};
 ghost use Rattle.rules.specs.Questions.{card_numbers, number_of_name, place_above, body_of_number};
-ghost use Rattle.rules.specs.Soundness.{Sound};
 ghost use Rattle.shelf.specs.Kinds.{by_place};
 ghost use Rattle.shelf.specs.Places.{first_above};
 

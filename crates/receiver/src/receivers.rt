@@ -1,6 +1,4 @@
 // The receiver, and what a setting of its clock gives.
-ghost use Rattle.receiver.specs.Views.{state_of};
-ghost use Rattle.rules.specs.Soundness.{Sound};
 
 use crate::parts::Parts;
 use crate::phases::{Running, Unset};
@@ -13,7 +11,6 @@ pub struct Receiver<D, P> {
     pub(crate) parts: Parts,
     pub(crate) display: D,
     pub(crate) phase: P,
-    ghost sound: { ∥ Sound (state_of parts) ∥₁ },
 }
 
 // A receiver whose clock was just set, and how many shows that took.

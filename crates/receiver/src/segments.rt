@@ -2,7 +2,6 @@
 ghost use Rattle.std.specs.Prelude.{◌≡◌};
 ghost use Rattle.receiver.specs.Views.{state_of, world_of, said};
 ghost use Rattle.rules.specs.Assembly.{segment_step};
-ghost use Rattle.rules.specs.Soundness.{Sound};
 
 use crate::faults::{NOT_ARRIVING, SEGMENT_MISFIT};
 use crate::parts::Parts;
@@ -23,7 +22,6 @@ impl Parts {
         transport: u16,
         sent: &Sent<'_>,
     ) -> Result<Answer, Fault>
-        requires { Sound (state_of self.old) }
         ensures { (said result, world_of self.new memory.new (D.Display.meaning display.new)) ≡ segment_step (world_of self.old memory.old (D.Display.meaning display.old)) transport sent.now.number sent.now.last sent.now.bytes.now }
     {
         self.admit(memory)?;

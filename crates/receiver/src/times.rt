@@ -5,7 +5,6 @@ ghost use Rattle.receiver.specs.Views.{state_of, world_of, told};
 ghost use Rattle.refusal.specs.declared.causes.Cause.TheVariants.{BodyMemoryMisfit};
 ghost use Rattle.rules.specs.Clocks.{read_to, reading_step};
 ghost use Rattle.rules.specs.Headers.{receiver_fault};
-ghost use Rattle.rules.specs.Soundness.{Sound};
 
 use crate::faults::{BELOW_CLOCK, MEMORY_MISFIT, NO_MOMENT};
 use crate::parts::Parts;
@@ -43,7 +42,6 @@ impl Parts {
         memory: &[u8],
         moment: u64,
     ) -> Result<usize, Fault>
-        requires { Sound (state_of self.old) }
         ensures { (told result, world_of self.new memory.now (D.Display.meaning display.new)) ≡ read_to moment (world_of self.old memory.now (D.Display.meaning display.old)) }
     {
         if moment < self.clock {
@@ -59,7 +57,6 @@ impl Parts {
         memory: &[u8],
         field: &[u8],
     ) -> Result<usize, Fault>
-        requires { Sound (state_of self.old) }
         ensures { (told result, world_of self.new memory.now (D.Display.meaning display.new)) ≡ reading_step (world_of self.old memory.now (D.Display.meaning display.old)) field.now }
     {
         let moment = self.moment_in(memory, field)?;

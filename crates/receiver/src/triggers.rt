@@ -1,8 +1,9 @@
 // Triggers take effect, wait or are undone.
-ghost use Rattle.std.specs.Prelude.{◌≡◌, ◌*◌, [], ◌∷◌};
+ghost use Rattle.std.specs.Prelude.{◌≡◌, ◌*◌, [], ◌∷◌, true};
 ghost use Rattle.receiver.specs.Verdicts.{verdict_of};
 ghost use Rattle.receiver.specs.Views.{state_of, world_of};
-ghost use Rattle.rules.specs.Soundness.{Sound};
+ghost use Rattle.rules.specs.Headers.{is_held};
+ghost use Rattle.rules.specs.Triggers.{verdict};
 ghost use Rattle.rules.specs.Worlds.{slot_at, armed, effect_at, show_all};
 ghost use Rattle.slots.specs.Pieces.{part};
 ghost use Rattle.slots.specs.Slides.{size_in};
@@ -10,6 +11,7 @@ ghost use Rattle.slots.specs.Slides.{size_in};
 use crate::parts::Parts;
 use crate::verdicts::Verdict;
 use display::Display;
+use moment::times::Time;
 use rack::sieves::Other;
 use slots::indices::SlotIndex;
 
@@ -31,18 +33,20 @@ impl Parts {
         let _ = display.show(self.number_at(k), moment, self.body_in(k, memory));
     }
 
-    // Arms a trigger for the slide in slot k; that undoes its waiting one.
+    // Arms a trigger, if there is one, for the slide in slot k, and answers what that came to; it undoes the waiting one.
     pub(crate) fn arm<D: Display>(
         &mut self,
         display: &mut D,
         memory: &[u8],
         k: SlotIndex,
-        verdict: Verdict,
-    )
-        requires { Sound (state_of self.old) }
-        ensures { world_of self.new memory.now (D.Display.meaning display.new) ≡ armed (verdict_of verdict) k.index (world_of self.old memory.now (D.Display.meaning display.old)) }
+        trigger: Option<Time>,
+    ) -> Verdict
+        requires { is_held (slot_at (state_of self.old) k.index) ≡ true }
+        ensures answer { verdict_of result ≡ verdict self.old.clock trigger }
+        ensures world { world_of self.new memory.now (D.Display.meaning display.new) ≡ armed (verdict_of result) k.index (world_of self.old memory.now (D.Display.meaning display.old)) }
     {
         let slot = k.get() as u32;
+        let verdict = Verdict::at(self.clock, trigger);
         match verdict {
             Verdict::Nothing => {}
             Verdict::Late => self.waiting.keep(&Other(slot)),
@@ -55,5 +59,6 @@ impl Parts {
                 let _ = self.waiting.put(moment, slot);
             }
         }
+        verdict
     }
 }

@@ -4,13 +4,11 @@ ghost use Rattle.display.specs.Meaning.{Meaning};
 ghost use Rattle.header.specs.Headers.{record_of};
 ghost use Rattle.receiver.specs.Views.{state_of, world_of};
 ghost use Rattle.rules.specs.Headers.{recategorised, update_step};
-ghost use Rattle.rules.specs.Soundness.{Sound};
 ghost use Rattle.rules.specs.Worlds.{any};
 ghost use Rattle.slots.specs.Slides.{numbered};
 
 use crate::faults::NOT_HELD;
 use crate::parts::Parts;
-use crate::verdicts::Verdict;
 use display::Display;
 use header::kinds::{Category, Header};
 use refusal::Fault;
@@ -21,8 +19,7 @@ use slots::sought::Named;
 impl Parts {
     // Puts a held slide into the category that an update gives, if it gives one; 00 00 means none.
     fn recategorise(&mut self, category: Option<Category>, number: u32)
-        requires sound { Sound (state_of self.old) }
-        requires held { any (numbered number) (state_of self.old).slots ≡ true }
+        requires { any (numbered number) (state_of self.old).slots ≡ true }
         ensures { (m : Meaning) (memory : List ℕ) → world_of self.new memory m ≡ recategorised category number (world_of self.old memory m) }
     {
         if category.is_some() {
@@ -31,22 +28,21 @@ impl Parts {
     }
 
     // Arms the trigger of an update for the held slide of its name, and sets its category.
+    #[tactic(auto, using(crate::proofs::Tellings::update_told))]
     pub(crate) fn update<D: Display>(
         &mut self,
         display: &mut D,
         memory: &[u8],
         header: &Header<'_>,
     ) -> Answer
-        requires { Sound (state_of self.old) }
         ensures { (result, world_of self.new memory.now (D.Display.meaning display.new)) ≡ update_step (world_of self.old memory.now (D.Display.meaning display.old)) (record_of header.now) }
     {
         let Some(k) = self.slots.find(&Named(header.name)) else {
             return Answer::Refused(NOT_HELD);
         };
         let number = self.number_at(k);
-        let verdict = Verdict::at(self.clock, header.trigger);
         self.recategorise(header.category, number);
-        self.arm(display, memory, k, verdict);
-        verdict.told_update(number)
+        self.arm(display, memory, k, header.trigger)
+            .told(number, Answer::Changed(number))
     }
 }

@@ -1,8 +1,6 @@
 // What arming a trigger comes to.
 ghost use Rattle.std.specs.Prelude.{◌≡◌};
-ghost use Rattle.receiver.specs.Verdicts.{verdict_of};
-ghost use Rattle.rules.specs.Assembly.{told_filing};
-ghost use Rattle.rules.specs.Headers.{told_update};
+ghost use Rattle.receiver.specs.Verdicts.{verdict_of, told_by};
 ghost use Rattle.rules.specs.Triggers.{verdict};
 
 use moment::times::Time;
@@ -37,27 +35,14 @@ impl Verdict {
         }
     }
 
-    // What an update answers that came to this.
-    pub(crate) fn told_update(self, number: u32) -> Answer
-        ensures { result ≡ told_update (verdict_of self) number }
+    // What a call answers that came to this: `quiet` where no trigger took effect and none was late.
+    pub(crate) fn told(self, number: u32, quiet: Answer) -> Answer
+        ensures { result ≡ told_by (verdict_of self) number quiet }
     {
         match self {
-            Verdict::Nothing => Answer::Changed(number),
             Verdict::Effect => Answer::Shown(number),
             Verdict::Late => Answer::Late(number),
-            Verdict::Wait(_) => Answer::Changed(number),
-        }
-    }
-
-    // What a slide's filing answers that came to this.
-    pub(crate) fn told_filing(self, number: u32) -> Answer
-        ensures { result ≡ told_filing (verdict_of self) number }
-    {
-        match self {
-            Verdict::Nothing => Answer::Filed(number),
-            Verdict::Effect => Answer::Shown(number),
-            Verdict::Late => Answer::Late(number),
-            Verdict::Wait(_) => Answer::Filed(number),
+            Verdict::Nothing | Verdict::Wait(_) => quiet,
         }
     }
 }

@@ -1,7 +1,8 @@
+use Rattle.receiver.proofs.Insides.{sound_of}
 use Rattle.receiver.proofs.Timed.{reading_passes}
 use Rattle.receiver.specs.Views.{world_of}
 use Rattle.receiver.proofs.parts.Parts.read_to.Goals as goal
 
 pub returns : goal.returns
 returns g c =
-    reading_passes c.args.moment (world_of c.args.self.now c.args.memory.now (g.D.Display.meaning c.args.display.now)) c.pass.result (world_of c.pass.new.self c.args.memory.now (g.D.Display.meaning c.pass.new.display)) c.requires c.if-moment-self.false c.pass.ensures.count c.pass.ensures.world
+    reading_passes c.args.moment (world_of c.args.self.now c.args.memory.now (g.D.Display.meaning c.args.display.now)) c.pass.result (world_of c.pass.new.self c.args.memory.now (g.D.Display.meaning c.pass.new.display)) (sound_of c.args.self.now) c.if-moment-self.false c.pass.ensures.count c.pass.ensures.world

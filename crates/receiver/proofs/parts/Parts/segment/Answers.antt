@@ -1,7 +1,8 @@
 use Rattle.std.proofs.Common.{◌≡◌, ℕ, ◌+◌, ◌*◌, ◌<◌, ◌≤◌, List, length, ap, ◌∙◌, arith}
 use Rattle.packed.specs.Parts.{pasted}
-use Rattle.receiver.proofs.Segmented.{segment_misfit, none_arrives, no_object, object_takes, lands_in_memory}
-use Rattle.receiver.specs.Arrivals.{object_at, laid}
+use Rattle.receiver.proofs.Insides.{sound_of}
+use Rattle.receiver.proofs.Segmented.{segment_misfit, none_arrives, no_object, object_takes, lands_grown, lands_in_memory}
+use Rattle.receiver.specs.Arrivals.{object_at, come_to, laid}
 use Rattle.receiver.specs.Views.{state_of, world_of}
 use Rattle.rules.specs.Assembly.{segment_of}
 use Rattle.slots.specs.Segments.{landing}
@@ -45,10 +46,11 @@ returns-in-At g c =
     let lt : k < 12 = c.in-Some.k.within in
     let put_at = c.get.result * p.room + c.in-At.offset in
     let same : put_at ≡ at = ap (λ j. j * p.room + c.in-At.offset) c.get.ensures.0 in
-    let within : put_at + length xs ≤ length c.args.memory.now = omega (arith, same, lands_in_memory (state_of p) c.requires k o c.in-Some-arrival_at.ensures lt u c.in-At.offset lands, c.in_ok-admit.ensures) in
+    let within : put_at + length xs ≤ length c.args.memory.now = omega (arith, same, lands_in_memory (state_of p) (sound_of p) k o c.in-Some-arrival_at.ensures lt u c.in-At.offset lands, c.in_ok-admit.ensures) in
     let e : c.paste.new.memory ≡ pasted c.args.memory.now at xs =
     c.paste.ensures.after ∙ cond-true c.paste.result (pasted c.args.memory.now put_at xs) c.args.memory.now (c.paste.ensures.fits ∙ le-leb (put_at + length xs) (length c.args.memory.now) within) ∙ ap (λ i. pasted c.args.memory.now i xs) same in
     c.lay.ensures
     ∙ (ap (λ q. laid k o q (world_of p c.paste.new.memory m)) c.from-segment.ensures
     ∙ ap (λ (x : List ℕ). laid k o u (world_of p x m)) e
+    ∙ ap (λ q. come_to k o q (world_of p (pasted c.args.memory.now at xs) m)) (lands_grown o.progress u c.in-At.offset lands)
     ∙ object_takes (world_of c.args.self.now c.args.memory.now (g.D.Display.meaning c.args.display.now)) c.args.transport c.args.sent.now.number c.args.sent.now.last c.args.sent.now.bytes.now c.in-Some.k.index (object_at c.args.self.now c.in-Some.k.index c.in-Some-arrival_at.arrival) (At c.in-At.offset) (eq-eqb (length c.args.memory.now) (12 * c.args.self.now.room) c.in_ok-admit.ensures) c.in-Some.ensures c.in-Some-arrival_at.ensures lands)

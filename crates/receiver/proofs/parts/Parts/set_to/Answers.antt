@@ -1,20 +1,10 @@
-use Rattle.std.proofs.Common.{ℕ, leb, length, filter, sym, ap, ◌∙◌, subst, ap₂}
-use Rattle.receiver.specs.Views.{state_of, world_of}
+use Rattle.std.proofs.Common.{ℕ, length, filter, ap, ◌∙◌, ap₂}
+use Rattle.receiver.specs.Views.{world_of}
 use Rattle.rules.proofs.Settings.{due_seen, setting_passes}
-use Rattle.rules.proofs.Sounds.{sound_vacate, sound_filtered}
 use Rattle.rules.specs.Calls.{counted}
 use Rattle.rules.specs.Passes.{seen, passed_to}
-use Rattle.rules.specs.Soundness.{Sound}
-use Rattle.rules.specs.Worlds.{State, World, vacate}
-use Rattle.slots.specs.Slides.{ends}
+use Rattle.rules.specs.Worlds.{World}
 use Rattle.receiver.proofs.parts.Parts.set_to.Goals as goal
-
-pub pass-requires : goal.pass-requires
-pass-requires g c =
-    let s : State = state_of c.args.self.now in
-    let t = c.args.moment in
-    let e = c.prepare.ensures (g.D.Display.meaning c.args.display.now) c.args.memory.now in
-    subst (λ (w : World). Sound w.state) (sym e) (sound_filtered (λ x. leb t x.key) (vacate (ends t) s) (sound_vacate (ends t) s c.requires))
 
 pub returns : goal.returns
 returns g c =
