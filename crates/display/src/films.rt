@@ -25,7 +25,7 @@ pub struct Film {
     ghost within: { end_of tape.items last ≤ vec_len tape },
 }
 
-// The number in `size` bytes of the tape.
+// The number in `size` bytes of the tape. Bytes and a place in them stay two arguments, as of any slice.
 fn number_at(tape: &[u8], at: usize, size: usize) -> u64
     requires within { at + size ≤ length tape.now }
     requires small { size ≤ 8 }

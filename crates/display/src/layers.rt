@@ -7,7 +7,8 @@ use crate::cards::CardNumbers;
 use crate::{Display, LAST_MOMENT, SHOW_REFUSED};
 use refusal::Fault;
 
-// How a layer puts moments off: by how much at most, and to which moment. What it does may depend on the lag below.
+// How a layer puts moments off: by how much at most, and to which moment. What it does may depend on the lag below, which
+// only the display below knows: so it is an argument.
 pub trait Shift {
     ghost most: { Self → ℕ → ℕ };
 

@@ -41,7 +41,8 @@ const SHOW_REFUSED: Fault = Fault {
 pub trait Display {
     ghost meaning: { Self → Meaning };
 
-    // Shows a body from a moment on, or refuses and leaves the card.
+    // Shows a body from a moment on, or refuses and leaves the card. Number, moment and body are this call's alone: a struct
+    // of them would be made for each call and taken apart in it.
     fn show(&mut self, accession: u32, moment: u64, body: &[u8]) -> Result<(), Fault>
         ensures { Shows (meaning self.old) accession moment body.now result (meaning self.new) };
 

@@ -42,7 +42,7 @@ fn time(bytes: &[u8], place: u16) -> Result<Time, Fault>
     read_time(bytes).map_err(|fault| Fault { place, ..fault })
 }
 
-// A version number: one byte.
+// A version number: one byte. The place goes into the refusal alone, here and below: so it stays beside the bytes.
 fn version(bytes: &[u8], place: u16) -> Result<u8, Fault>
     ensures { result ≡ version_at place bytes.now }
 {

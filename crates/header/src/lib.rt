@@ -34,6 +34,7 @@ fn parameters<'a>(kind: Kind, extension: &'a [u8]) -> Result<Found<'a>, Fault>
     let mut found = Found::default();
     let mut left = extension;
     let mut place = CORE_SIZE;
+    // parameters have lengths of their own, and the place counts their bytes
     while !left.is_empty() {
         let parameter = first(left).ok_or(refused(Cause::ParameterPastEnd, place))?;
         found.take(kind, parameter, place)?;

@@ -1,4 +1,5 @@
-// Worked examples of the time field, proved from its definition.
+// Worked examples of the time field, proved from its definition. Each is a function of its own, whose contract names its
+// figure.
 ghost use Rattle.std.specs.Prelude.{◌≡◌, [], ◌∷◌, Ok, Err};
 ghost use Rattle.moment.specs.Field.{time_of, time_fault};
 ghost use Rattle.moment.specs.declared.times.Time.TheVariants.{At};

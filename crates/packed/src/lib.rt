@@ -19,7 +19,8 @@ pub fn number(bytes: &[u8]) -> Option<u64>
     Some(n)
 }
 
-// Writes `part` over the memory from `at` on; false, and nothing written, where it does not fit.
+// Writes `part` over the memory from `at` on; false, and nothing written, where it does not fit. A yes or no: a Result would
+// have nothing to say beside.
 pub fn paste(memory: &mut [u8], at: usize, part: &[u8]) -> bool
     ensures fits { result ≡ nat_le (at + length part.now) (length memory.old) }
     ensures after { memory.new ≡ (if result then pasted memory.old at part.now else memory.old) }

@@ -1,4 +1,5 @@
-// Objects come to a receiver: headers and segments.
+// Objects come to a receiver: headers and segments. Both calls hand on to the data, each with its own arguments; body memory
+// is lent to each call and not kept.
 ghost use Rattle.std.specs.Prelude.{◌≡◌};
 ghost use Rattle.receiver.specs.Receivers.{world};
 ghost use Rattle.rules.specs.Assembly.{segment_step};

@@ -16,6 +16,7 @@ impl<D: Display> Receiver<D, Unset> {
     pub fn set(self, memory: &[u8], field: &[u8]) -> Result<Started<D>, Unmoved<D>>
         ensures { Sets D.Display.meaning self memory.now field.now result }
     {
+        // no `?`: the error takes the receiver along
         let moment = match self.parts.moment_in(memory, field) {
             Ok(moment) => moment,
             Err(fault) => {

@@ -46,13 +46,14 @@ impl<'a, T: SlotTest> SlotTest for AlsoNumbered<'a, T> {
     }
 }
 
-// The slot that a trigger waits for does not pass the test.
+// What stays where the slots that pass the test are freed.
 #[derive(Drop)]
 pub(crate) struct Staying<'a, T> {
     pub(crate) slots: &'a Slots,
     pub(crate) test: &'a T,
 }
 
+// A trigger stays where its slot does not pass.
 impl<'a, T: SlotTest> EntryTest<u64> for Staying<'a, T> {
     ghost test = { λ t e. not (T.SlotTest.test t.test.now (slice_index_or (all_seen t.slots.now) e.load free)) };
 
@@ -67,14 +68,8 @@ impl<'a, T: SlotTest> EntryTest<u64> for Staying<'a, T> {
     }
 }
 
-// The slide that has a category place is in no slot that passes the test.
-#[derive(Drop)]
-pub(crate) struct Remaining<'a, T> {
-    pub(crate) slots: &'a Slots,
-    pub(crate) test: &'a T,
-}
-
-impl<'a, T: SlotTest> EntryTest<(u8, u8)> for Remaining<'a, T> {
+// A category place stays where its slide is in no slot that passes.
+impl<'a, T: SlotTest> EntryTest<(u8, u8)> for Staying<'a, T> {
     ghost test = { λ t e. not (any (λ x. T.SlotTest.test t.test.now x && numbered e.load x) (all_seen t.slots.now)) };
 
     fn passes(&self, entry: &Entry<(u8, u8)>) -> bool {

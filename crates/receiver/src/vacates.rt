@@ -5,7 +5,7 @@ ghost use Rattle.rules.specs.Worlds.{vacate};
 ghost use Rattle.slots.specs.Slides.{free};
 
 use crate::parts::Parts;
-use crate::sieves::{Remaining, Staying};
+use crate::sieves::Staying;
 use slots::sought::SlotTest;
 
 impl Parts {
@@ -17,14 +17,12 @@ impl Parts {
         if self.slots.find(test).is_none() {
             return;
         }
-        self.waiting.keep(&Staying {
+        let staying = Staying {
             slots: &self.slots,
             test,
-        });
-        self.places.keep(&Remaining {
-            slots: &self.slots,
-            test,
-        });
+        };
+        self.waiting.keep(&staying);
+        self.places.keep(&staying);
         self.slots.clear(test);
     }
 }

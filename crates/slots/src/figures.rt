@@ -1,4 +1,5 @@
-// Worked examples of segments that fit a body of ten bytes or not, proved from the definitions.
+// Worked examples of segments that fit a body of ten bytes or not, proved from the definitions. Each is a function of its
+// own, whose contract names its figure.
 ghost use Rattle.std.specs.Prelude.{◌≡◌, true, Some};
 ghost use Rattle.slots.specs.Segments.{landing, after_segment};
 ghost use Rattle.slots.specs.Slides.{fresh};

@@ -40,7 +40,8 @@ impl Arrival {
         }
     }
 
-    // Whether the header says what the one of this object, under this name, said.
+    // Whether the header says what the one of this object, under this name, said. Value by value: record and header are two
+    // types, and a header holds more.
     pub fn same_image(&self, name: &Name, header: &Header<'_>) -> bool
         ensures value { result ≡ same_image (object_of self.now (name_of name.now)).image (image_of (record_of header.now)) }
         ensures test { Decides result ((object_of self.now (name_of name.now)).image ≡ image_of (record_of header.now)) }

@@ -1,4 +1,4 @@
-// What one slot answers.
+// What one slot answers. The questions differ in the state that they take apart, which no parameter can name.
 ghost use Rattle.std.specs.Prelude.{◌≡◌};
 ghost use Rattle.slots.specs.Contents.{object_in, slide_held};
 ghost use Rattle.slots.specs.Seen.{seen, label, object_of, slide_in};

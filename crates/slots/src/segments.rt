@@ -124,7 +124,7 @@ impl Progress {
         landing
     }
 
-    // Whether all numbers below n are among those taken.
+    // Whether all numbers below n are among those taken. By `all` it was tried: a range tells a proof too little of its items.
     #[tactic(auto, using(crate::proofs::Numbers::covers_not))]
     fn covers(&self, n: u16) -> bool
         ensures { result ≡ covers n self.now.taken }

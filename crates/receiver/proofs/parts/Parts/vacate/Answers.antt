@@ -6,8 +6,8 @@ use Rattle.receiver.proofs.Looks.{none_leaves, index_some}
 use Rattle.receiver.specs.Views.{state_of}
 use Rattle.receiver.proofs.parts.Parts.vacate.Goals as goal
 
-pub invariant_of-self : goal.invariant_of-self
-invariant_of-self g c =
+pub invariant_of-self-2 : goal.invariant_of-self-2
+invariant_of-self-2 g c =
     let p = c.args.self.now in
     let s : State = state_of p in
     let test = g.T.SlotTest.test c.args.test.now in

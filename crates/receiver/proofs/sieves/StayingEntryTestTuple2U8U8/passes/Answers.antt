@@ -2,7 +2,7 @@ use Rattle.std.proofs.Common.{Bool, not, ◌&&◌, is_some, sym, ap, ◌∙◌}
 use Rattle.slots.specs.Seen.{all_seen}
 use Rattle.slots.specs.Slides.{Slot, numbered}
 use Rattle.receiver.proofs.Looks.{found_any, index_some, turned}
-use Rattle.receiver.proofs.sieves.RemainingEntryTestTuple2U8U8.passes.Goals as goal
+use Rattle.receiver.proofs.sieves.StayingEntryTestTuple2U8U8.passes.Goals as goal
 
 pub returns : goal.returns
 returns g c =
