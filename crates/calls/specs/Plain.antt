@@ -1,9 +1,9 @@
 -- Calls and replies as the rules have them, and the refusal in a reply.
-use Rattle.std.specs.Prelude.{Some, None, vec_items, Option}
+use Rattle.std.specs.Prelude.{Some, None, Ok, Err, vec_items, Option}
 use Rattle.calls.specs.declared.Call.{Call}
 use Rattle.calls.specs.declared.Call.TheVariants.{Header, Segment, Time, FindName, NextPlace, Body, Card}
 use Rattle.calls.specs.declared.Reply.{Reply}
-use Rattle.calls.specs.declared.Reply.TheVariants.{Answered, Counted, Refused, Found, Placed, Bytes, Shows}
+use Rattle.calls.specs.declared.Reply.TheVariants.{Answered, Counted, Found, Placed, Bytes, Shows}
 use Rattle.header.specs.Finds.{name_of_label}
 use Rattle.refusal.specs.declared.Fault.{Fault}
 use Rattle.rules.specs.Calls as rules
@@ -21,11 +21,12 @@ call_of Card = rules.card
 
 abbrev pub reply_of : Reply → rules.Reply
 reply_of (Answered a) = rules.answered a
-reply_of (Counted n) = rules.counted n
-reply_of (Refused e) = rules.refused e
+reply_of (Counted (Ok n)) = rules.counted n
+reply_of (Counted (Err e)) = rules.refused e
 reply_of (Found n) = rules.found n
 reply_of (Placed p) = rules.placed p
-reply_of (Bytes v) = rules.bytes (vec_items v)
+reply_of (Bytes (Ok v)) = rules.bytes (vec_items v)
+reply_of (Bytes (Err e)) = rules.refused e
 reply_of (Shows c) = rules.shows c
 
 -- the refusal in an answer to a header or a segment

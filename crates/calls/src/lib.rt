@@ -51,15 +51,13 @@ pub enum Reply {
     // to a header or a segment
     Answered(Answer),
     // to a setting or a reading: how many slides it showed
-    Counted(usize),
-    // to a setting, a reading or the question for a body
-    Refused(Fault),
+    Counted(Result<usize, Fault>),
     // to the question for a name
     Found(Option<u32>),
     // to the question for a category place
     Placed(Option<Entry<(u8, u8)>>),
     // to the question for a body
-    Bytes(Vec<u8>),
+    Bytes(Result<Vec<u8>, Fault>),
     // to the question for the card
     Shows(Option<CardNumbers>),
 }
@@ -70,8 +68,8 @@ impl Reply {
         ensures { result ≡ fault_of (reply_of self.now) }
     {
         match self {
-            Reply::Refused(fault) => Some(*fault),
             Reply::Answered(Answer::Refused(fault)) => Some(*fault),
+            Reply::Counted(Err(fault)) | Reply::Bytes(Err(fault)) => Some(*fault),
             _ => None,
         }
     }
