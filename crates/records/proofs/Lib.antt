@@ -1,6 +1,2 @@
-mod Cut
 mod Listed
-mod Sending
-mod Telling
-mod Spelled
 mod Back

@@ -24,4 +24,4 @@ pub record ExamplesStand : Type 0 where
   pub left_over : Reads (0x20 ∷ 0x00 ∷ 0x20 ∷ []) (Ok (time []) ∷ Err malformed ∷ [])
   -- a malformed record asks for the card alone
   pub sent : calls_from (Ok (time []) ∷ Err malformed ∷ []) ≡ time [] ∷ card ∷ card ∷ []
-  pub told : lines_from 1 (Ok (time []) ∷ Err malformed ∷ []) (counted 1 ∷ shows (Some (record { accession = 5; since = 9; length = 3 })) ∷ shows None ∷ []) ≡ record { number = 1; refusal = 0; accession = 5; since = 9 } ∷ record { number = 2; refusal = 19; accession = 0; since = 0 } ∷ []
+  pub told : lines_from 1 (Ok (time []) ∷ Err malformed ∷ []) (counted 1 ∷ shows (Some (record { accession = 5; since = 9; length = 3 })) ∷ shows None ∷ []) ≡ record { number = 1; refusal = None; card = Some (record { accession = 5; since = 9; length = 3 }) } ∷ record { number = 2; refusal = Some malformed; card = None } ∷ []

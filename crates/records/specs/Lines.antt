@@ -4,19 +4,10 @@ use Rattle.std.specs.Borrow.{Bor}
 use Rattle.calls.specs.Plain.{reply_of, fault_of}
 use Rattle.calls.specs.declared.Reply as plain
 use Rattle.display.specs.declared.cards.CardNumbers.{CardNumbers}
-use Rattle.refusal.specs.Numbers.{number_of}
 use Rattle.refusal.specs.declared.Fault.{Fault}
 use Rattle.rules.specs.Calls.{Call, Reply, answered, counted, refused, found, placed, bytes, shows}
 use Rattle.std.specs.Option.{option_map}
 use Rattle.records.specs.declared.facts.Line.{Line}
-
--- the number of a refusal, or 0
-abbrev pub number_or_0 : Option Fault → ℕ
-number_or_0 None = 0
-number_or_0 (Some e) = number_of e.cause
-
-abbrev pub refusal_in : Reply → ℕ
-refusal_in r = number_or_0 (fault_of r)
 
 -- the card that a reply tells
 abbrev pub card_in : Reply → Option CardNumbers
@@ -28,24 +19,20 @@ card_in (placed p) = None
 card_in (bytes xs) = None
 card_in (shows c) = c
 
-abbrev pub line_with : ℕ → ℕ → Option CardNumbers → Line
-line_with n refusal None = record { number = n; refusal = refusal; accession = 0; since = 0 }
-line_with n refusal (Some c) = record { number = n; refusal = refusal; accession = c.accession; since = c.since }
-
--- the line of record n, with its refusal's number and the reply that tells the card
-abbrev pub line_of : ℕ → ℕ → Reply → Line
-line_of n refusal r = line_with n refusal (card_in r)
+-- the line of record n, with its refusal and the reply that tells the card
+abbrev pub line_of : ℕ → Option Fault → Reply → Line
+line_of n refusal r = record { number = n; refusal = refusal; card = card_in r }
 
 -- a line with the card that the first reply tells, and the replies behind it
-abbrev pub with_card : ℕ → ℕ → List Reply → Option (Line × List Reply)
+abbrev pub with_card : ℕ → Option Fault → List Reply → Option (Line × List Reply)
 with_card n refusal [] = None
 with_card n refusal (r ∷ rs) = Some (line_of n refusal r, rs)
 
 -- a record's line and the replies behind its own: a call's reply and the card, or the card alone; none where a reply is missing
 abbrev pub told : ℕ → Result Call Fault → List Reply → Option (Line × List Reply)
 told n (Ok c) [] = None
-told n (Ok c) (r ∷ rs) = with_card n (refusal_in r) rs
-told n (Err e) rs = with_card n (number_of e.cause) rs
+told n (Ok c) (r ∷ rs) = with_card n (fault_of r) rs
+told n (Err e) rs = with_card n (Some e) rs
 
 -- a line and those of what is left
 abbrev pub and_on : Option (Line × List Reply) → (List Reply → List Line) → List Line

@@ -1,7 +1,7 @@
 // One record off the front of a trace.
 ghost use Rattle.std.specs.Prelude.{◌≡◌, [], ◌∷◌};
-ghost use Rattle.packed.specs.Bits.{whole};
-ghost use Rattle.records.specs.Records.{first_record, said_by, seen};
+ghost use Rattle.packed.specs.Bits.{field, whole};
+ghost use Rattle.records.specs.Records.{first_record, record_with, said_by, seen};
 
 use calls::Call;
 use refusal::Fault;
@@ -20,10 +20,10 @@ pub const MALFORMED: Fault = Fault {
 fn pair(high: u8, low: u8) -> u16
     ensures { result ≡ whole (high ∷ low ∷ []) }
 {
-    u16::from(high) * 256 + u16::from(low)
+    u16::from_be_bytes([high, low])
 }
 
-// What a payload of that kind says.
+// What a payload of that kind says. The wire's numbers become the enum `Call` right here, so there is no enum of kinds.
 fn say<'a>(kind: u16, payload: &'a [u8]) -> Record<'a>
     ensures { seen result ≡ said_by kind payload.now }
 {
@@ -43,17 +43,23 @@ fn say<'a>(kind: u16, payload: &'a [u8]) -> Record<'a>
     }
 }
 
+// The record whose kind and size that number holds, and the bytes behind it; behind a record that runs past the end there
+// are none.
+fn cut<'a>(head: u16, rest: &'a [u8]) -> (Record<'a>, &'a [u8])
+    ensures { (seen result.0, result.1.now) ≡ record_with (field 16 0 3 head) (field 16 3 13 head) rest.now }
+{
+    match rest.split_at_checked(usize::from(head % 8192)) {
+        Some((payload, behind)) => (say(head / 8192, payload), behind),
+        None => (Err(MALFORMED), &[]),
+    }
+}
+
 // The first record and the bytes behind it; behind a record that runs past the end there are none.
 pub fn read_record<'a>(bytes: &'a [u8]) -> (Record<'a>, &'a [u8])
     ensures { (seen result.0, result.1.now) ≡ first_record bytes.now }
 {
     let [a, b, rest @ ..] = bytes else {
-        return (Err(MALFORMED), &bytes[bytes.len()..]);
+        return (Err(MALFORMED), &[]);
     };
-    let head = pair(*a, *b);
-    let size = usize::from(head % 8192);
-    if size > rest.len() {
-        return (Err(MALFORMED), &rest[rest.len()..]);
-    }
-    (say(head / 8192, &rest[0..size]), &rest[size..])
+    cut(pair(*a, *b), rest)
 }

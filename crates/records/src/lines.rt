@@ -1,52 +1,41 @@
 // A line for each record: what became of it, and the card behind it.
 ghost use Rattle.std.specs.Prelude.{◌≡◌, map, IfOk};
 ghost use Rattle.calls.specs.Plain.{reply_of};
-ghost use Rattle.records.specs.Lines.{refusal_in, line_of, with_card, told, seen_told, lines_from};
+ghost use Rattle.records.specs.Lines.{card_in, with_card, told, seen_told, lines_from};
 ghost use Rattle.records.specs.Records.{seen};
 
 use crate::cuts::Record;
 use crate::facts::Line;
 use calls::Reply;
+use display::cards::CardNumbers;
+use refusal::Fault;
 use std::alloc::{AllocError, Global};
 
-// The number of the refusal in a reply, or 0.
-fn refusal_in(reply: &Reply) -> u8
-    ensures { result ≡ refusal_in (reply_of reply.now) }
+// The card that a reply tells.
+fn card_in(reply: &Reply) -> Option<CardNumbers>
+    ensures { result ≡ card_in (reply_of reply.now) }
 {
-    match reply.fault() {
-        Some(fault) => fault.number(),
-        None => 0,
-    }
-}
-
-// A record's line, with the reply that tells the card.
-fn line(number: usize, refusal: u8, card: &Reply) -> Line
-    ensures { result ≡ line_of number refusal (reply_of card.now) }
-{
-    match card {
-        Reply::Shows(Some(card)) => Line {
-            number,
-            refusal,
-            accession: card.accession,
-            since: card.since,
-        },
-        _ => Line {
-            number,
-            refusal,
-            accession: 0,
-            since: 0,
-        },
+    match reply {
+        Reply::Shows(card) => *card,
+        _ => None,
     }
 }
 
 // A line with the card that the first reply tells, and the replies behind it; none where there is no reply.
-fn with_card<'r>(number: usize, refusal: u8, replies: &'r [Reply]) -> Option<(Line, &'r [Reply])>
+fn with_card<'r>(
+    number: usize,
+    refusal: Option<Fault>,
+    replies: &'r [Reply],
+) -> Option<(Line, &'r [Reply])>
     ensures { seen_told result ≡ with_card number refusal (map reply_of replies.now) }
 {
-    let [card, rest @ ..] = replies else {
-        return None;
+    let (first, rest) = replies.split_first()?;
+    let line = Line {
+        number,
+        refusal,
+        card: card_in(first),
     };
-    Some((line(number, refusal, card), rest))
+    Some((line, rest))
 }
 
 // A record's line and the replies behind its own; none where a reply is missing.
@@ -55,12 +44,10 @@ fn tell<'r>(number: usize, said: &Record<'_>, replies: &'r [Reply]) -> Option<(L
 {
     match said {
         Ok(_) => {
-            let [own, rest @ ..] = replies else {
-                return None;
-            };
-            with_card(number, refusal_in(own), rest)
+            let (own, rest) = replies.split_first()?;
+            with_card(number, own.fault(), rest)
         }
-        Err(fault) => with_card(number, fault.number(), replies),
+        Err(fault) => with_card(number, Some(*fault), replies),
     }
 }
 

@@ -13,13 +13,11 @@ use std::alloc::{AllocError, Global};
 pub const TRACE_LIMIT: usize = 32_768;
 
 // The bytes of an input that count.
+#[tactic(auto, using(std::proofs::lemmas::List::take_min))]
 fn counted<'a>(input: &'a [u8]) -> &'a [u8]
     ensures { result.now ≡ take 32768 input.now }
 {
-    if input.len() <= TRACE_LIMIT {
-        return input;
-    }
-    &input[0..TRACE_LIMIT]
+    &input[..TRACE_LIMIT.min(input.len())]
 }
 
 // All records of an input, in order.
@@ -29,7 +27,7 @@ pub fn read_records<'a>(heap: Global, input: &'a [u8]) -> Result<Vec<Record<'a>>
 {
     let mut all = Vec::new(heap);
     let mut left = counted(input);
-    while left.len() > 0 {
+    while !left.is_empty() {
         let (record, rest) = read_record(left);
         all.push(record)?;
         left = rest;
