@@ -1,5 +1,5 @@
 -- What a replay gives: the replies and the world that the rules give, and the laws of whole runs.
-use Rattle.std.specs.Prelude.{◌≡◌, ℕ, ◌<◌, ◌≤◌, List, ◌++◌}
+use Rattle.std.specs.Prelude.{◌≡◌, ℕ, List, ◌++◌}
 use Rattle.calls.specs.declared.Call.{Call}
 use Rattle.calls.specs.declared.Call.TheVariants as calls
 use Rattle.display.specs.Meaning.{Meaning}
@@ -21,15 +21,9 @@ module _ {D : Type 0} (mean : D → Meaning) where
   world_at_end (StillUnset r) memory = world mean r memory
   world_at_end (NowRunning r) memory = world mean r memory
 
--- what is still to do: the replies so far with those to the calls that are left are all of them, and the same world comes out
-abbrev pub Going : List rules.Reply → World → List rules.Reply → World → List rules.Call → Type 0
-Going all end said w cs = (said ++ replies w cs ≡ all) × (after w cs ≡ end)
-
--- where a receiver stands that was sent calls until one set it: it runs, or no call is left
-module _ {D : Type 0} where
-  abbrev pub Halts : Ended D → ℕ → ℕ → Type 0
-  Halts (StillUnset r) calls done = calls ≤ done
-  Halts (NowRunning r) calls done = 0 < r.parts.clock
+-- the replies to the calls stand behind those that were there, and the world is the one after them
+abbrev pub Ran : World → List rules.Call → List rules.Reply → List rules.Reply → World → Type 0
+Ran w cs was now end = (now ≡ was ++ replies w cs) × (end ≡ after w cs)
 
 -- the call is no time field
 abbrev pub NoTime : Call → Type 0

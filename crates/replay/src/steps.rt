@@ -12,7 +12,8 @@ use receiver::receivers::Receiver;
 use slots::bodies::Sent;
 use std::alloc::{AllocError, Global};
 
-// The reply to the question for a body.
+// The reply to the question for a body. It owns a copy, and want of memory for that is an error and no reply.
+#[tactic(auto, unfolding(rules::specs::Runs::step))]
 fn body<D: Display, P>(
     heap: Global,
     receiver: &Receiver<D, P>,
@@ -21,13 +22,14 @@ fn body<D: Display, P>(
 ) -> Result<Reply, AllocError>
     ensures { IfOk result (λ y. reply_of y ≡ (step (world D.Display.meaning receiver.now memory.now) (call_of (Call.Body accession))).0) }
 {
-    match receiver.body(accession, memory) {
-        Ok(bytes) => Ok(Reply::Bytes(bytes.to_vec(heap)?)),
-        Err(fault) => Ok(Reply::Refused(fault)),
-    }
+    Ok(Reply::Bytes(match receiver.body(accession, memory) {
+        Ok(bytes) => Ok(bytes.to_vec(heap)?),
+        Err(fault) => Err(fault),
+    }))
 }
 
 // The reply to a call that is no time field, in every phase.
+#[tactic(auto, unfolding(rules::specs::Runs::step))]
 pub(crate) fn ask<D: Display, P>(
     heap: Global,
     receiver: &mut Receiver<D, P>,
@@ -72,11 +74,8 @@ pub(crate) fn run_one<D: Display>(
     requires { 0 < (world D.Display.meaning receiver.old memory.old).state.clock }
     ensures { IfOk result (λ y. (reply_of y, world D.Display.meaning receiver.new memory.new) ≡ step (world D.Display.meaning receiver.old memory.old) (call_of call.now)) }
 {
-    if let Call::Time { bytes } = call {
-        return match receiver.read(memory, bytes) {
-            Ok(shows) => Ok(Reply::Counted(shows)),
-            Err(fault) => Ok(Reply::Refused(fault)),
-        };
+    match call {
+        Call::Time { bytes } => Ok(Reply::Counted(receiver.read(memory, bytes))),
+        _ => ask(heap, receiver, memory, call),
     }
-    ask(heap, receiver, memory, call)
 }

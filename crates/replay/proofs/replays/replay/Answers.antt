@@ -14,10 +14,9 @@ returns g c =
     let cs = map call_of c.args.calls.now in
     let w : World = world g.D.Display.meaning c.open-opened.result c.args.memory.now in
     let opens = c.open-opened.ensures.opens c.args.memory.now in
-    let u = c.in_ok-halted.ensures in
     let r = c.in_ok-receiver.ensures in
     record {
-      replied = r.0 ∙ (u.0.0 ∙ (ap (λ xs. map reply_of xs ++ replies w cs) c.in_ok-replies.ensures.items ∙ ap (λ x. replies x cs) opens));
-      left = r.1 ∙ (u.0.1 ∙ ap (λ x. after x cs) opens);
+      replied = r.0 ∙ (ap (λ xs. map reply_of xs ++ replies w cs) c.in_ok-replies.ensures.items ∙ ap (λ x. replies x cs) opens);
+      left = r.1 ∙ ap (λ x. after x cs) opens;
       laws = laws (g.D.Display.meaning c.args.display) (g.met.D.Display.keeps c.args.display) c.args.slot_size c.args.memory.now;
     }

@@ -1,12 +1,13 @@
-use Rattle.std.proofs.Common.{◌≡◌, ℕ, List, [], ◌++◌, map, length, get_or, drop, vec_items, sym, refl, ap, ◌∙◌, subst, arith, Bor}
+use Rattle.std.proofs.Common.{◌≡◌, ℕ, List, ◌++◌, map, get_or, vec_items, sym, refl, ap, ◌∙◌, Ok, Err, Bor}
+use Rattle.std.proofs.lemmas.List.{take_rest}
 use Rattle.calls.specs.Plain.{call_of, reply_of}
 use Rattle.calls.specs.declared.Call.{Call}
 use Rattle.calls.specs.declared.Call.TheVariants.{Header, Segment, Time, FindName, NextPlace, Body, Card}
-use Rattle.calls.specs.declared.Reply.TheVariants.{Counted, Refused}
+use Rattle.calls.specs.declared.Reply.TheVariants.{Counted}
 use Rattle.receiver.specs.Receivers.{world}
 use Rattle.replay.proofs.Clocked.{started_above, other_clock}
-use Rattle.replay.proofs.Going.{going_on}
-use Rattle.replay.specs.Ends.{Going, NoTime}
+use Rattle.replay.proofs.Going.{more}
+use Rattle.replay.specs.Ends.{NoTime}
 use Rattle.replay.proofs.Stepped.{step_setting}
 use Rattle.rules.specs.Calls.{Reply, counted, refused}
 use Rattle.rules.specs.Runs.{after, replies, step}
@@ -22,25 +23,28 @@ no_time (NextPlace p) h = tt
 no_time (Body n) h = tt
 no_time Card h = tt
 
+pub run_on-requires : goal.run_on-requires
+run_on-requires g c =
+    started_above (world g.D.Display.meaning c.loop-i.receiver c.loop-i.memory) c.in-Time.bytes.now c.in-Ok.started.shows (world g.D.Display.meaning c.in-Ok.started.receiver c.loop-i.memory) c.in-Ok.ensures
+
 pub returns-in-Ok : goal.returns-in-Ok
 returns-in-Ok g c =
     let w : World = world g.D.Display.meaning c.args.opened c.args.memory.now in
     let cs = c.args.calls.now in
     let i = c.loop-i.i in
-    let d = Header 0 (record { ref_ptr = (0, 0); now = [] }) in
     let u : World = world g.D.Display.meaning c.loop-i.receiver c.loop-i.memory in
     let v : World = world g.D.Display.meaning c.in-Ok.started.receiver c.loop-i.memory in
     let n = c.in-Ok.started.shows in
     let e = step_setting u c.in-Time.bytes.now (counted n, v) c.loop-i.invariant.0 c.in-Ok.ensures ∙ ap (λ x. step u (call_of x)) (sym c.in-Time.is) in
-    let r = going_on (map reply_of (vec_items c.args.said.now) ++ replies w (map call_of cs)) (after w (map call_of cs)) (vec_items c.loop-i.said) (vec_items c.push.new.self) cs i d (Counted n) u v c.loop-i-test.true c.in_ok-push-in-Ok.ensures.items e c.loop-i.invariant.1 in
-    (r, started_above u c.in-Time.bytes.now n v c.in-Ok.ensures)
+    let left = more (map reply_of (vec_items c.args.said.now) ++ replies w (map call_of cs)) (after w (map call_of cs)) (vec_items c.loop-i.said) (vec_items c.push.new.self) cs i _ (Counted (Ok n)) u v c.loop-i-test.true c.in_ok-push-in-Ok.ensures.items e c.loop-i.invariant.1 in
+    let r = rw take_rest at c.in_ok-run_on-in-Ok.ensures in
+    (r.0 ∙ left.0, r.1 ∙ left.1)
 
 pub loop-i-preserved : goal.loop-i-preserved
 loop-i-preserved g c =
     let w : World = world g.D.Display.meaning c.args.opened c.args.memory.now in
     let cs = c.args.calls.now in
     let i = c.loop-i.i in
-    let d = Header 0 (record { ref_ptr = (0, 0); now = [] }) in
     let u : World = world g.D.Display.meaning c.loop-i.receiver c.loop-i.memory in
     let all = map reply_of (vec_items c.args.said.now) ++ replies w (map call_of cs) in
     let end : World = after w (map call_of cs) in
@@ -49,19 +53,12 @@ loop-i-preserved g c =
           let v : World = world g.D.Display.meaning y.in-Err.unmoved.receiver c.loop-i.memory in
           let e = step_setting u y.in-Time.bytes.now (refused y.in-Err.unmoved.fault, v) c.loop-i.invariant.0 y.in-Err.ensures.0 ∙ ap (λ x. step u (call_of x)) (sym y.in-Time.is) in
           let k : v.state.clock ≡ 0 = ap (λ (x : World). x.state.clock) y.in-Err.ensures.1 ∙ c.loop-i.invariant.0 in
-          let r = going_on all end (vec_items c.loop-i.said) (vec_items y.push-in-Err.new.self) cs i d (Refused y.in-Err.unmoved.fault) u v c.loop-i-test.true y.in_ok-push-in-Err.ensures.items e c.loop-i.invariant.1 in
+          let r = more all end (vec_items c.loop-i.said) (vec_items y.push-in-Err.new.self) cs i _ (Counted (Err y.in-Err.unmoved.fault)) u v c.loop-i-test.true y.in_ok-push-in-Err.ensures.items e c.loop-i.invariant.1 in
           rw (y.receiver-is, y.said-is, y.memory-is) (k, r)
       | goal.in_default+in_ok-ask+in_ok-push y ↦
           let v : World = world g.D.Display.meaning y.ask.new.receiver y.ask.new.memory in
-          let e : (reply_of y.in_ok-ask.field-0, v) ≡ step u (call_of (get_or cs i d)) = y.in_ok-ask.ensures in
-          let k : v.state.clock ≡ 0 = ap (λ (o : Reply × World). o.1.state.clock) e ∙ (other_clock u (get_or cs i d) (no_time (get_or cs i d) y.in_default.not-Time) ∙ c.loop-i.invariant.0) in
-          let r = going_on all end (vec_items c.loop-i.said) (vec_items y.push-in_default.new.self) cs i d y.in_ok-ask.field-0 u v c.loop-i-test.true y.in_ok-push.ensures.items e c.loop-i.invariant.1 in
+          let e : (reply_of y.in_ok-ask.field-0, v) ≡ step u (call_of (get_or cs i _)) = y.in_ok-ask.ensures in
+          let k : v.state.clock ≡ 0 = ap (λ (o : Reply × World). o.1.state.clock) e ∙ (other_clock u (get_or cs i _) (no_time (get_or cs i _) y.in_default.not-Time) ∙ c.loop-i.invariant.0) in
+          let r = more all end (vec_items c.loop-i.said) (vec_items y.push-in_default.new.self) cs i _ y.in_ok-ask.field-0 u v c.loop-i-test.true y.in_ok-push.ensures.items e c.loop-i.invariant.1 in
           rw (y.receiver-is, y.said-is, y.memory-is) (k, r)
     ]
-
-pub returns : goal.returns
-returns g c =
-    let w : World = world g.D.Display.meaning c.args.opened c.args.memory.now in
-    let cs = c.args.calls.now in
-    let e : c.loop-i.i ≡ length cs = omega arith in
-    (subst (λ n. Going (map reply_of (vec_items c.args.said.now) ++ replies w (map call_of cs)) (after w (map call_of cs)) (map reply_of (vec_items c.loop-i.said)) (world g.D.Display.meaning c.loop-i.receiver c.loop-i.memory) (map call_of (drop n cs))) e c.loop-i.invariant.1, omega arith)

@@ -1,7 +1,7 @@
 use Rattle.std.proofs.Common.{◌≡◌, ◌++◌, map, drop, vec_items}
 use Rattle.calls.specs.Plain.{call_of, reply_of}
 use Rattle.receiver.specs.Receivers.{world}
-use Rattle.replay.specs.Ends.{Going}
+use Rattle.replay.proofs.Going.{Going}
 use Rattle.rules.specs.Runs.{after, replies}
 use Rattle.rules.specs.Worlds.{World}
 use Rattle.replay.proofs.replays.run_unset.Given as goal
