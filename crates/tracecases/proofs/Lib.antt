@@ -1,3 +1,2 @@
-mod Parted
 mod Telling
 mod Back

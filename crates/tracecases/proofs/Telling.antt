@@ -2,20 +2,8 @@
 use Rattle.std.proofs.Common.{◌≡◌, ℕ, zero, suc, ◌<◌, ◌≤◌, Bool, true, false, cond, leb, List, [], ◌∷◌, ◌++◌, length, take, drop, Some, None, Option, sym, ap, ◌∙◌, arith, length-drop}
 use Rattle.packed.specs.Bits.{whole}
 use Rattle.std.proofs.lemmas.List.{append_assoc, append-nil}
-use Rattle.trace.specs.Printed.{printed}
 use Rattle.tracecases.specs.Cases.{Case, parted, name_in, trace_in, with_trace, with_name, first_case}
-use Rattle.tracecases.specs.Told.{heading, case_told, and_on, told_from, told}
-
-pub headed : (a b c d name : List ℕ) → b ≡ a ++ 35 ∷ 32 ∷ [] → c ≡ b ++ name → d ≡ c ++ 10 ∷ [] → d ≡ a ++ heading name
-headed a b c d name p q r =
-    r
-    ∙ ap (λ (u : List ℕ). u ++ 10 ∷ []) (q ∙ ap (λ (u : List ℕ). u ++ name) p)
-    ∙ append_assoc (a ++ 35 ∷ 32 ∷ []) name (10 ∷ [])
-    ∙ append_assoc a (35 ∷ 32 ∷ []) (name ++ 10 ∷ [])
-
-pub with_lines : (a b d : List ℕ) (c : Case) → b ≡ a ++ heading c.name → d ≡ b ++ printed c.trace → d ≡ a ++ case_told c
-with_lines a b d c p q =
-    q ∙ ap (λ (u : List ℕ). u ++ printed c.trace) p ∙ append_assoc a (heading c.name) (printed c.trace)
+use Rattle.tracecases.specs.Told.{case_told, and_on, told_from, told}
 
 -- what is left behind a part, or 0
 abbrev left_of : Option (List ℕ × List ℕ) → ℕ
@@ -64,31 +52,41 @@ pub shorter : (xs : List ℕ) (t : Case × List ℕ) → Some t ≡ first_case x
 shorter xs t is =
     omega (arith, ap left_behind is, with_name_left (name_in xs), name_left xs (some_bytes xs t is))
 
--- the text of what is left stands behind what is there
-abbrev pub Left : List ℕ → List ℕ → List ℕ → Type 0
-Left done left all = (n : ℕ) × (length left ≤ n) × (done ++ told_from n left ≡ all)
+nothing : (n : ℕ) (xs : List ℕ) → None ≡ first_case xs → told_from n xs ≡ []
+nothing zero xs is = λ i. []
+nothing (suc n) xs is = ap (λ (o : Option (Case × List ℕ)). and_on o (λ left. told_from n left)) (sym is)
 
-pub next : (done more xs all : List ℕ) (t : Case × List ℕ) → Some t ≡ first_case xs → more ≡ done ++ case_told t.0 → Left done xs all → Left more t.1 all
-next done more xs all t is put l = at l.0 l.1 l.2
+-- steps beyond the length change nothing
+enough : (n m : ℕ) (xs : List ℕ) → length xs ≤ n → length xs ≤ m → told_from n xs ≡ told_from m xs
+enough n m [] h k = nothing n [] (λ i. None) ∙ sym (nothing m [] (λ i. None))
+enough zero m (x ∷ xs) h k = absurd (omega arith)
+enough (suc n) zero (x ∷ xs) h k = absurd (omega arith)
+enough (suc n) (suc m) (x ∷ xs) h k =
+    by (first_case (x ∷ xs)) (λ i. first_case (x ∷ xs)) (λ ys a b. enough n m ys a b)
   where
-    at : (n : ℕ) → length xs ≤ n → done ++ told_from n xs ≡ all → Left more t.1 all
-    at zero le e = absurd (omega (arith, shorter xs t is))
-    at (suc n) le e = (
-      n,
-      omega (arith, shorter xs t is),
-      ap (λ (ys : List ℕ). ys ++ told_from n t.1) put
-          ∙ append_assoc done (case_told t.0) (told_from n t.1)
-          ∙ ap (λ (o : Option (Case × List ℕ)). done ++ and_on o (λ left. told_from n left)) is
-          ∙ e,
-    )
+    by : (o : Option (Case × List ℕ)) → o ≡ first_case (x ∷ xs) → ((ys : List ℕ) → length ys ≤ n → length ys ≤ m → told_from n ys ≡ told_from m ys) → and_on o (λ left. told_from n left) ≡ and_on o (λ left. told_from m left)
+    by None is same = λ i. []
+    by (Some t) is same =
+        let less = shorter (x ∷ xs) t is in
+        ap (λ (ys : List ℕ). case_told t.0 ++ ys) (same t.1 (omega arith) (omega arith))
 
-pub starts : (done xs : List ℕ) → done ≡ [] → Left done xs (told xs)
-starts done xs d = (length xs, omega arith, ap (λ (ys : List ℕ). ys ++ told xs) d)
+-- the text of the first case, and that of the bytes behind it
+one_on : (xs : List ℕ) (t : Case × List ℕ) → Some t ≡ first_case xs → told xs ≡ case_told t.0 ++ told t.1
+one_on [] t is = absurd (omega (arith, shorter [] t is))
+one_on (x ∷ xs) t is =
+    let less = shorter (x ∷ xs) t is in
+    ap (λ (o : Option (Case × List ℕ)). and_on o (λ left. told_from (length xs) left)) (sym is)
+    ∙ ap (λ (ys : List ℕ). case_told t.0 ++ ys) (enough (length xs) (length t.1) t.1 (omega arith) (omega arith))
 
-none : (n : ℕ) (xs : List ℕ) → None ≡ first_case xs → told_from n xs ≡ []
-none zero xs is = λ i. []
-none (suc n) xs is = ap (λ (o : Option (Case × List ℕ)). and_on o (λ left. told_from n left)) (sym is)
+-- the text of one case more stands behind what is there
+pub next : (done more xs all : List ℕ) (t : Case × List ℕ) → Some t ≡ first_case xs → more ≡ done ++ case_told t.0 → done ++ told xs ≡ all → more ++ told t.1 ≡ all
+next done more xs all t is put e =
+    ap (λ (ys : List ℕ). ys ++ told t.1) put
+    ∙ append_assoc done (case_told t.0) (told t.1)
+    ∙ ap (λ (ys : List ℕ). done ++ ys) (sym (one_on xs t is))
+    ∙ e
 
-pub ends : (done all xs : List ℕ) → None ≡ first_case xs → Left done xs all → done ≡ all
-ends done all xs is l =
-    sym (append-nil done) ∙ ap (λ (ys : List ℕ). done ++ ys) (sym (none l.0 xs is)) ∙ l.2
+-- no case is left
+pub ends : (done all xs : List ℕ) → None ≡ first_case xs → done ++ told xs ≡ all → done ≡ all
+ends done all xs is e =
+    sym (append-nil done) ∙ ap (λ (ys : List ℕ). done ++ ys) (sym (nothing (length xs) xs is)) ∙ e

@@ -2,11 +2,8 @@ use Rattle.std.proofs.Common.{vec_items}
 use Rattle.tracecases.specs.Cases.{seen}
 use Rattle.tracecases.specs.Told.{told}
 use Rattle.tracecases.proofs.Back.{tells_each}
-use Rattle.tracecases.proofs.Telling.{shorter, next, starts, ends}
+use Rattle.tracecases.proofs.Telling.{shorter, next, ends}
 use Rattle.tracecases.proofs.tellings.tell_cases.Goals as goal
-
-pub loop-case-init : goal.loop-case-init
-loop-case-init c = starts c.new-text.result.items c.args.input.now c.new-text.ensures.items
 
 pub loop-case-smaller : goal.loop-case-smaller
 loop-case-smaller c = shorter c.loop-case.left.now (seen c.in-Some.case, c.in-Some.rest.now) c.in-Some.ensures
