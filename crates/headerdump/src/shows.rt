@@ -1,19 +1,7 @@
 // How a header is written: every value field by field.
 use header::kinds::Header;
+use hexpairs::dashes::OrDash;
 use std::fmt;
-
-// A value, or a dash where none is given.
-#[derive(Drop)]
-struct OrDash<T>(Option<T>);
-
-impl<T: fmt::Display> fmt::Display for OrDash<T> {
-    fn fmt<W: fmt::Write>(&self, f: &mut fmt::Formatter<W>) -> fmt::Result {
-        match &self.0 {
-            Some(value) => write!(f, "{value}"),
-            None => write!(f, "-"),
-        }
-    }
-}
 
 // Bytes as hexadecimal digits.
 #[derive(Drop)]

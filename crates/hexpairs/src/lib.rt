@@ -1,10 +1,12 @@
-// Hexadecimal text: its lines, and bytes written as pairs of digits. The kit's `hex` takes no blanks between pairs.
+// Hexadecimal text: its lines, bytes written as pairs of digits, and a dash for a value that is not given.
+// The kit's `hex` takes no blanks between pairs.
 #![tactic(auto)]
 
 ghost use Rattle.std.specs.Prelude.{◌≡◌, ◌<◌, IfSome, IfOk, vec_items};
 ghost use Rattle.std.specs.Option.{option_map};
 ghost use Rattle.hexpairs.specs.Text.{digit_of, blank, byte_of, bytes_of};
 
+pub mod dashes;
 pub mod lines;
 
 use std::alloc::{AllocError, Global};
