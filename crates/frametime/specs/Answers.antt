@@ -1,10 +1,14 @@
 -- What the program answers to one line of its input.
-use Rattle.std.specs.Prelude.{◌≡◌, ℕ, List, [], ◌∷◌, Some, None, Ok, Err, Option, Result}
+use Rattle.std.specs.Prelude.{◌≡◌, ℕ, List, Some, None, Ok, Err, Option, Result}
+use Rattle.std.specs.List.{AllZip}
 use Rattle.display.specs.Layering.{edge_over, lag_over}
 use Rattle.display.specs.Meaning.{Meaning, blank, Settles}
 use Rattle.frametime.specs.declared.lines.Frames.{Frames}
-use Rattle.frametime.specs.declared.lines.Line.{Line}
-use Rattle.frametime.specs.declared.lines.Line.TheVariants.{NotHexadecimal, Refused, AtOnce, Shown}
+use Rattle.frametime.specs.declared.lines.NoTime.{NoTime}
+use Rattle.frametime.specs.declared.lines.NoTime.TheVariants.{NotHexadecimal, Refused}
+use Rattle.frametime.specs.declared.lines.Shown.{Shown}
+use Rattle.frametime.specs.declared.lines.Shown.TheVariants.{AtOnce, Settled}
+use Rattle.frametime.specs.declared.timings.Timing.{Timing}
 use Rattle.hexpairs.specs.Text.{bytes_of}
 use Rattle.moment.specs.Days.{split_of}
 use Rattle.moment.specs.Field.{time_of}
@@ -16,29 +20,26 @@ use Rattle.refusal.specs.declared.Fault.{Fault}
 abbrev pub plain : Meaning
 plain = blank 0
 
--- when each pile of displays shows what is told for the moment m, with period p and delay d
-pub record ShowsAt (p d m : ℕ) (f : Frames) : Type 0 where
+-- when each pile of displays shows what is told for the moment m
+pub record ShowsAt (t : Timing) (m : ℕ) (f : Frames) : Type 0 where
   pub moment : f.moment ≡ m
   pub split : (f.day, f.millis) ≡ split_of m
   pub panel : Settles plain m f.panel
-  pub edge : Settles (edge_over p plain) m f.edge
-  pub lag_over_edge : Settles (lag_over d (edge_over p plain)) m f.lag_over_edge
-  pub edge_over_lag : Settles (edge_over p (lag_over d plain)) m f.edge_over_lag
+  pub edge : Settles (edge_over t.period.value plain) m f.edge
+  pub lag_over_edge : Settles (lag_over t.delay.value (edge_over t.period.value plain)) m f.lag_over_edge
+  pub edge_over_lag : Settles (edge_over t.period.value (lag_over t.delay.value plain)) m f.edge_over_lag
 
 -- the answer to what a time field says
-abbrev pub Told : ℕ → ℕ → Result Time Fault → Line → Type 0
-Told p d (Err e) l = l ≡ Refused e
-Told p d (Ok Now) l = l ≡ AtOnce
-Told p d (Ok (At m)) l = (f : Frames) × (l ≡ Shown f) × ShowsAt p d m f
+abbrev pub Told : Timing → Result Time Fault → Result Shown NoTime → Type 0
+Told t (Err e) a = a ≡ Err (Refused e)
+Told t (Ok Now) a = a ≡ Ok AtOnce
+Told t (Ok (At m)) a = (f : Frames) × (a ≡ Ok (Settled f)) × ShowsAt t m f
 
 -- the answer to the bytes of a line, or to a line that spells none
-abbrev pub Answers : ℕ → ℕ → Option (List ℕ) → Line → Type 0
-Answers p d None l = l ≡ NotHexadecimal
-Answers p d (Some xs) l = Told p d (time_of xs) l
+abbrev pub Answers : Timing → Option (List ℕ) → Result Shown NoTime → Type 0
+Answers t None a = a ≡ Err NotHexadecimal
+Answers t (Some xs) a = Told t (time_of xs) a
 
 -- an answer for each line, in order
-abbrev pub EachAnswered : ℕ → ℕ → List (List ℕ) → List Line → Type 0
-EachAnswered p d [] [] = Unit {0}
-EachAnswered p d [] (l ∷ ls) = ⊥
-EachAnswered p d (t ∷ ts) [] = ⊥
-EachAnswered p d (t ∷ ts) (l ∷ ls) = Answers p d (bytes_of t) l × EachAnswered p d ts ls
+abbrev pub EachAnswered : Timing → List (List ℕ) → List (Result Shown NoTime) → Type 0
+EachAnswered t = AllZip (λ text a. Answers t (bytes_of text) a)

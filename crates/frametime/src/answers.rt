@@ -5,71 +5,70 @@ ghost use Rattle.hexpairs.specs.Lines.{lines_of};
 ghost use Rattle.hexpairs.specs.Text.{bytes_of};
 ghost use Rattle.moment.specs.Field.{time_of};
 
-use crate::lines::{Frames, Line};
+use crate::lines::{Frames, NoTime, Shown};
+use crate::timings::Timing;
 use display::Display;
 use display::edges::Edge;
 use display::lags::Lag;
 use display::panels::Panel;
-use display::settings::{Delay, Period};
 use hexpairs::hex_bytes;
 use hexpairs::lines::lines_of;
 use moment::times::Time;
 use moment::{read_time, split};
 use std::alloc::{AllocError, Global};
 
-// When a display shows what it is told for a moment.
-fn frames(heap: Global, moment: u64, period: Period, delay: Delay) -> Frames
-    ensures { ShowsAt period.apart delay.late moment result }
-{
-    let (day, millis) = split(moment);
-    Frames {
-        moment,
-        day,
-        millis,
-        panel: Panel::new(Vec::new(heap)).settle(moment),
-        edge: Edge::new(Panel::new(Vec::new(heap)), period).settle(moment),
-        lag_over_edge: Lag::new(Edge::new(Panel::new(Vec::new(heap)), period), delay).settle(
+// What a line of input comes to.
+pub type Answer = Result<Shown, NoTime>;
+
+impl Timing {
+    // When a display shows what it is told for a moment.
+    fn frames(self, heap: Global, moment: u64) -> Frames
+        ensures { ShowsAt self moment result }
+    {
+        let Timing { period, delay } = self;
+        let panel = Panel::new(Vec::new(heap));
+        let edge = Edge::new(Panel::new(Vec::new(heap)), period);
+        let lag = Lag::new(Panel::new(Vec::new(heap)), delay);
+        let (day, millis) = split(moment);
+        Frames {
             moment,
-        ),
-        edge_over_lag: Edge::new(Lag::new(Panel::new(Vec::new(heap)), delay), period).settle(
-            moment,
-        ),
+            day,
+            millis,
+            panel: panel.settle(moment),
+            edge: edge.settle(moment),
+            lag_over_edge: Lag::new(edge, delay).settle(moment),
+            edge_over_lag: Edge::new(lag, period).settle(moment),
+        }
     }
-}
 
-// What a time field comes to.
-fn told(heap: Global, field: &[u8], period: Period, delay: Delay) -> Line
-    ensures { Told period.apart delay.late (time_of field.now) result }
-{
-    match read_time(field) {
-        Ok(Time::At(moment)) => Line::Shown(frames(heap, moment, period, delay)),
-        Ok(Time::Now) => Line::AtOnce,
-        Err(fault) => Line::Refused(fault),
+    // What a time field comes to.
+    fn told(self, heap: Global, field: &[u8]) -> Answer
+        ensures { Told self (time_of field.now) result }
+    {
+        match read_time(field)? {
+            Time::At(moment) => Ok(Shown::Settled(self.frames(heap, moment))),
+            Time::Now => Ok(Shown::AtOnce),
+        }
     }
-}
 
-// The answer to a line: a time field in hexadecimal, or any other text.
-pub fn answer(heap: Global, text: &[u8], period: Period, delay: Delay) -> Result<Line, AllocError>
-    ensures { IfOk result (λ l. Answers period.apart delay.late (bytes_of text.now) l) }
-{
-    match hex_bytes(heap, text)? {
-        None => Ok(Line::NotHexadecimal),
-        Some(field) => Ok(told(heap, field.as_slice(), period, delay)),
+    // The answer to a line: a time field in hexadecimal, or any other text.
+    pub fn answer(self, heap: Global, text: &[u8]) -> Result<Answer, AllocError>
+        ensures { IfOk result (λ a. Answers self (bytes_of text.now) a) }
+    {
+        match hex_bytes(heap, text)? {
+            None => Ok(Err(NoTime::NotHexadecimal)),
+            Some(field) => Ok(self.told(heap, field.as_slice())),
+        }
     }
-}
 
-// The answers to a whole input, line by line.
-pub fn answers(
-    heap: Global,
-    input: &[u8],
-    period: Period,
-    delay: Delay,
-) -> Result<Vec<Line>, AllocError>
-    ensures { IfOk result (λ v. EachAnswered period.apart delay.late (lines_of input.now) v.items) }
-{
-    let mut all = Vec::new(heap);
-    for line in lines_of(input) {
-        all.push(answer(heap, line, period, delay)?)?;
+    // The answers to a whole input, line by line.
+    pub fn answers(self, heap: Global, input: &[u8]) -> Result<Vec<Answer>, AllocError>
+        ensures { IfOk result (λ v. EachAnswered self (lines_of input.now) v.items) }
+    {
+        let mut all = Vec::new(heap);
+        for line in lines_of(input) {
+            all.push(self.answer(heap, line)?)?;
+        }
+        Ok(all)
     }
-    Ok(all)
 }

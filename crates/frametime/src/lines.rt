@@ -1,6 +1,11 @@
 // The answer to a line of input, and how it prints.
+ghost use Rattle.frametime.specs.declared.lines.NoTime.TheVariants.{Refused};
+ghost use Rattle.std.specs.Prelude.{◌≡◌};
+
+use hexpairs::dashes::OrDash;
 use refusal::Fault;
 use std::fmt;
+use thiserror::Error;
 
 // A moment, its day and milliseconds, and when each pile of displays shows it.
 #[derive(Clone, Copy)]
@@ -14,62 +19,65 @@ pub struct Frames {
     pub edge_over_lag: Option<u64>,
 }
 
-// What a line of input comes to.
+// When what a line tells is shown.
 #[derive(Clone, Copy)]
-pub enum Line {
-    NotHexadecimal,
-    Refused(Fault),
+pub enum Shown {
     AtOnce,
-    Shown(Frames),
+    Settled(Frames),
 }
 
-// A settled moment, or a dash where the display takes none so late.
-#[derive(Clone, Copy)]
-struct Settled(Option<u64>);
+// Why a line tells no time.
+#[derive(Clone, Copy, Debug, Error)]
+pub enum NoTime {
+    #[error("not hexadecimal")]
+    NotHexadecimal,
+    #[error("{}", Numbers(*.0))]
+    Refused(Fault),
+}
 
-impl fmt::Display for Settled {
+impl From<Fault> for NoTime {
+    ghost from_gives = { λ fault reason. reason ≡ Refused fault };
+
+    fn from(fault: Fault) -> NoTime {
+        NoTime::Refused(fault)
+    }
+}
+
+// A refusal by its numbers.
+#[derive(Clone, Copy)]
+pub struct Numbers(pub Fault);
+
+impl fmt::Display for Numbers {
     fn fmt<W: fmt::Write>(&self, f: &mut fmt::Formatter<W>) -> fmt::Result {
-        match self.0 {
-            Some(moment) => write!(f, "{moment}"),
-            None => write!(f, "-"),
-        }
+        let Numbers(fault) = self;
+        write!(
+            f,
+            "refused {} {} {}",
+            fault.number(),
+            fault.layer.number(),
+            fault.place
+        )
     }
 }
 
 impl fmt::Display for Frames {
     fn fmt<W: fmt::Write>(&self, f: &mut fmt::Formatter<W>) -> fmt::Result {
-        let Frames {
-            moment,
-            day,
-            millis,
-            panel,
-            edge,
-            lag_over_edge,
-            edge_over_lag,
-        } = *self;
-        let first = Settled(panel);
-        let second = Settled(edge);
-        let third = Settled(lag_over_edge);
-        let fourth = Settled(edge_over_lag);
+        write!(f, "{} {} {}", self.moment, self.day, self.millis)?;
+        write!(f, " {} {}", OrDash(self.panel), OrDash(self.edge))?;
         write!(
             f,
-            "{moment} {day} {millis} {first} {second} {third} {fourth}"
+            " {} {}",
+            OrDash(self.lag_over_edge),
+            OrDash(self.edge_over_lag)
         )
     }
 }
 
-impl fmt::Display for Line {
+impl fmt::Display for Shown {
     fn fmt<W: fmt::Write>(&self, f: &mut fmt::Formatter<W>) -> fmt::Result {
         match self {
-            Line::NotHexadecimal => write!(f, "not hexadecimal"),
-            Line::Refused(fault) => {
-                let number = fault.number();
-                let layer = fault.layer.number();
-                let place = fault.place;
-                write!(f, "refused {number} {layer} {place}")
-            }
-            Line::AtOnce => write!(f, "now"),
-            Line::Shown(frames) => write!(f, "{frames}"),
+            Shown::AtOnce => write!(f, "now"),
+            Shown::Settled(frames) => write!(f, "{frames}"),
         }
     }
 }

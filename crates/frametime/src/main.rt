@@ -3,41 +3,39 @@
 
 mod answers;
 mod lines;
+mod timings;
 
-use answers::answers;
-use anyhow::anyhow;
-use display::settings::{Delay, Period};
-use lines::Line;
-use refusal::Fault;
+use answers::Answer;
+use anyhow::{Context, ensure};
 use std::io::Read;
 use std::{env, io};
+use timings::Timing;
 
-// The answer to every line of the input, numbered from 1.
-fn print_lines(rt: &HostRuntime, input: &[u8], period: Period, delay: Delay) -> io::Result<()> {
-    let all = answers(rt.alloc(), input, period, delay)?;
-    let mut number: u64 = 0;
-    for line in all.iter() {
-        number = number.saturating_add(1);
-        println!(rt; "{number} {line}")?;
+const USAGE: &str = "give a period and a delay in milliseconds";
+
+// The answer to one line.
+fn print_answer(rt: &HostRuntime, number: usize, answer: &Answer) -> io::Result<()> {
+    match answer {
+        Ok(shown) => println!(rt; "{number} {shown}"),
+        Err(reason) => println!(rt; "{number} {reason}"),
     }
-    Ok(())
 }
 
-// The refusal of a setting that is out of range.
-fn print_refusal(rt: &HostRuntime, setting: &str, fault: Fault) -> io::Result<()> {
-    let line = Line::Refused(fault);
-    println!(rt; "{setting} {line}")
+// The answer to every line of the input, numbered from 1.
+fn print_answers(rt: &HostRuntime, input: &[u8], timing: Timing) -> io::Result<()> {
+    let all = timing.answers(rt.alloc(), input)?;
+    for (number, answer) in (1..).zip(&all) {
+        print_answer(rt, number, answer)?;
+    }
+    Ok(())
 }
 
 // A period and a delay with their answers, or with the refusal of one that is out of range.
 fn print_pair(rt: &HostRuntime, input: &[u8], period: u64, delay: u64) -> io::Result<()> {
     println!(rt; "period {period} delay {delay}")?;
-    match Period::new(period) {
-        Err(fault) => print_refusal(rt, "period", fault),
-        Ok(p) => match Delay::new(delay) {
-            Err(fault) => print_refusal(rt, "delay", fault),
-            Ok(d) => print_lines(rt, input, p, d),
-        },
+    match Timing::new(period, delay) {
+        Ok(timing) => print_answers(rt, input, timing),
+        Err(reason) => println!(rt; "{reason}"),
     }
 }
 
@@ -45,21 +43,12 @@ fn print_pair(rt: &HostRuntime, input: &[u8], period: u64, delay: u64) -> io::Re
 fn run(rt: &HostRuntime) -> anyhow::Result<()> {
     let mut input = Vec::new(rt.alloc());
     rt.stdin().read_to_end(&mut input)?;
-    let mut first: Option<u64> = None;
-    let mut pairs: u64 = 0;
-    for word in env::args(rt)?.skip(1) {
-        let number = word.as_str().parse::<u64>()?;
-        match first {
-            None => first = Some(number),
-            Some(period) => {
-                print_pair(rt, input.as_slice(), period, number)?;
-                pairs = pairs.saturating_add(1);
-                first = None;
-            }
-        }
-    }
-    if first.is_some() || pairs == 0 {
-        return Err(anyhow!("give a period and a delay in milliseconds"));
+    let mut words = env::args(rt)?.skip(1).peekable();
+    ensure!(words.peek().is_some(), USAGE);
+    while let Some(word) = words.next() {
+        let period = word.as_str().parse::<u64>()?;
+        let delay = words.next().context(USAGE)?.as_str().parse::<u64>()?;
+        print_pair(rt, input.as_slice(), period, delay)?;
     }
     Ok(())
 }

@@ -1,7 +1,7 @@
 use Rattle.std.proofs.Common.{◌≡◌, [], rules}
 use Rattle.std.proofs.lemmas.List.{append-nil}
 use Rattle.hexpairs.specs.Lines.{left_of}
-use Rattle.frametime.proofs.answers.answers.Goals as goal
+use Rattle.frametime.proofs.timings.Timing.answers.Goals as goal
 
 pub returns : goal.returns
 returns c =
