@@ -37,7 +37,8 @@ fn run_on<D: Display>(
     Ok(())
 }
 
-// The same for a receiver that was not set: from the first accepted setting on it runs.
+// The same for a receiver that was not set: from the first accepted setting on it runs. The rest of the calls is cut off by
+// index, since the checker does not cover a loop that splits the first call off a slice and moves the receiver.
 fn run_unset<D: Display + Drop>(
     heap: Global,
     opened: Receiver<D, Unset>,
