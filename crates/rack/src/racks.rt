@@ -5,7 +5,7 @@ ghost use Rattle.std.specs.Bool.{⊤};
 use shelf::entries::Entry;
 use std::alloc::AllocError;
 
-// Room for twelve entries, of which the first `used` are on the shelf.
+// Room for twelve entries, of which the first `used` are on the shelf. An array and a count: a receiver has no heap.
 pub struct Rack<K> {
     pub(crate) entries: [Entry<K>; 12],
     pub(crate) used: usize,

@@ -27,7 +27,7 @@ impl Parts {
         self.slots.at(k).name
     }
 
-    // The number in slot k, 0 where it is free.
+    // The number in slot k, 0 where it is free, as the rules take it.
     pub(crate) fn number_at(&self, k: SlotIndex) -> u32
         ensures { result ≡ number_in (slot_at (state_of self.now) k.index) }
     {

@@ -1,7 +1,8 @@
 // What headers and segments answer.
 use refusal::Fault;
 
-// The answer to a header or a segment, with the accession number of the slide that it is about.
+// The answer to a header or a segment, with the accession number of the slide that it is about. The refusal is one of its
+// cases and no Err: a rule of the project, for an answer that holds its fault.
 #[derive(Clone, Copy)]
 pub enum Answer {
     // a header began an object, or a segment was taken into one
