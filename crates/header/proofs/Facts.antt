@@ -1,5 +1,5 @@
 -- What every accepted header keeps to, for the crates above.
-use Rattle.std.proofs.Common.{◌≡◌, ℕ, zero, suc, ◌<◌, ◌≤◌, Bool, true, false, cond, eqb, List, [], ◌∷◌, length, take, drop, Some, None, Ok, Option, Result, sym, refl, ap, ◌∙◌, subst, arith}
+use Rattle.std.proofs.Common.{◌≡◌, ℕ, zero, suc, ◌<◌, ◌≤◌, Bool, true, false, cond, eqb, List, [], ◌∷◌, length, take, drop, Some, None, Ok, Option, Result, sym, refl, subst, arith}
 use Rattle.moment.specs.declared.times.Time.{Time}
 use Rattle.packed.specs.Bits.{whole}
 use Rattle.refusal.specs.declared.Fault.{Fault}

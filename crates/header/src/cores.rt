@@ -1,15 +1,14 @@
 // The core of a header: its first seven bytes, and what they allow.
-ghost use Rattle.std.specs.Prelude.{◌≡◌};
+ghost use Rattle.std.specs.Prelude.{◌≡◌, [], ◌∷◌};
 ghost use Rattle.packed.specs.Bits.{whole};
 ghost use Rattle.header.specs.Cores.{core_in, kind_of, body_fits};
 
 use crate::kinds::{Core, Kind};
 
 // The four numbers that seven bytes hold.
-pub fn unpack(bytes: [u8; 7]) -> Core
-    ensures { result ≡ core_in (whole bytes) }
+pub fn unpack(b0: u8, b1: u8, b2: u8, b3: u8, b4: u8, b5: u8, b6: u8) -> Core
+    ensures { result ≡ core_in (whole (b0 ∷ b1 ∷ b2 ∷ b3 ∷ b4 ∷ b5 ∷ b6 ∷ [])) }
 {
-    let [b0, b1, b2, b3, b4, b5, b6] = bytes;
     Core {
         body_size: u32::from(b0) * 0x10_0000
             + u32::from(b1) * 0x1000

@@ -17,7 +17,7 @@ pub fn core_of_an_image() -> Core
     ensures figure { core_in (whole (0x00 ∷ 0x00 ∷ 0x00 ∷ 0x30 ∷ 0x09 ∷ 0x84 ∷ 0x01 ∷ [])) ≡ record { body_size = 3; header_size = 19; content_type = 2; subtype = 1 } }
     ensures answer { result ≡ record { body_size = 3; header_size = 19; content_type = 2; subtype = 1 } }
 {
-    unpack([0x00, 0x00, 0x00, 0x30, 0x09, 0x84, 0x01])
+    unpack(0x00, 0x00, 0x00, 0x30, 0x09, 0x84, 0x01)
 }
 
 // A trigger time of four bytes, of which three are there, is refused; behind a core it stands at place 7.

@@ -94,8 +94,9 @@ pub fn read_header<'a>(bytes: &'a [u8], slot_size: u32) -> Result<Header<'a>, Fa
     ensures sound { IfOk (seen result) (Sound slot_size) }
     ensures law { HeaderLaw bytes.now slot_size (seen result) }
 {
-    let (core, extension) = bytes
-        .split_first_chunk::<7>()
-        .ok_or(refused(Cause::HeaderCut, 0))?;
-    read_with(unpack(*core), bytes.len(), extension, slot_size)
+    let [b0, b1, b2, b3, b4, b5, b6, extension @ ..] = bytes else {
+        return Err(refused(Cause::HeaderCut, 0));
+    };
+    let core = unpack(*b0, *b1, *b2, *b3, *b4, *b5, *b6);
+    read_with(core, bytes.len(), extension, slot_size)
 }
