@@ -1,5 +1,5 @@
 // Headers as they are read: what each is for, and every value that it holds.
-ghost use Rattle.std.specs.Prelude.{Some};
+ghost use Rattle.std.specs.Prelude.{◌≡◌, Some};
 ghost use Rattle.header.specs.Shown.{kind_text, category_text};
 
 use moment::times::Time;
@@ -46,6 +46,15 @@ impl fmt::Display for Category {
 
     fn fmt<W: fmt::Write>(&self, f: &mut fmt::Formatter<W>) -> fmt::Result {
         write!(f, "{}/{}", self.category, self.slide)
+    }
+}
+
+// As a key of the category places. A key is a pair and no `Category`: pairs come in their order by themselves.
+impl From<Category> for (u8, u8) {
+    ghost from_gives = { λ c p. p ≡ (c.category, c.slide) };
+
+    fn from(given: Category) -> (u8, u8) {
+        (given.category, given.slide)
     }
 }
 

@@ -1,6 +1,6 @@
 -- A body that is put together, segment by segment.
 use Rattle.std.proofs.Common.{◌≡◌, ℕ, ◌+◌, ◌<◌, ◌≤◌, List, [], ◌∷◌, ◌++◌, map, length, get_or, take, refl, ap, ◌∙◌}
-use Rattle.std.proofs.lemmas.List.{map_more, take_all}
+use Rattle.std.proofs.lemmas.List.{map_more}
 use Rattle.slots.specs.Bodies.{sent_of, assembled}
 use Rattle.slots.specs.Pieces as pieces
 use Rattle.slots.specs.Pieces.{Receipt, begun, received, received_all}

@@ -1,6 +1,6 @@
 -- A list of which one element is changed, as seen through a function.
-use Rattle.std.proofs.Common.{◌≡◌, ℕ, ◌<◌, ◌≤◌, List, map, length, get_or, set, sym, ap, ◌∙◌, arith}
-use Rattle.std.proofs.lemmas.List.{length-map, map-set, get_or-map, set-get_or, set_past}
+use Rattle.std.proofs.Common.{◌≡◌, ℕ, ◌<◌, List, map, length, get_or, set, sym, ap, ◌∙◌}
+use Rattle.std.proofs.lemmas.List.{map-set, get_or-map, set-get_or}
 
 module _ {A B : Type 0} (f : A → B) (xs : List A) (k : ℕ) where
   -- another in its place

@@ -1,6 +1,5 @@
 -- Searches among slots, step by step, and what they find.
-use Rattle.std.proofs.Common.{◌≡◌, ℕ, suc, ◌+◌, ◌-◌, ◌<◌, ◌≤◌, Bool, true, false, cond, List, [], ◌∷◌, refl, map, length, get_or, Some, None, ap, ◌∙◌, add-one, arith}
-use Rattle.std.proofs.lemmas.List.{get_or-map}
+use Rattle.std.proofs.Common.{◌≡◌, ℕ, suc, ◌+◌, ◌-◌, ◌<◌, Bool, true, false, cond, List, [], ◌∷◌, refl, map, get_or, Some, ap, ◌∙◌, add-one, arith}
 use Rattle.std.proofs.lemmas.Bool.{cond-true, cond-false}
 use Rattle.std.proofs.lemmas.Iterator.Adapters.{position_from-zero}
 use Rattle.std.specs.List.{position, position_from}
@@ -16,18 +15,13 @@ found_from see test k (x ∷ xs) =
 pub position_found : {A : Type 0} (see : A → Slot) (test : Slot → Bool) (xs : List A) → position (λ x. test (see x)) xs ≡ first_slot test (map see xs)
 position_found see test xs = position_from-zero (λ x. test (see x)) xs ∙ found_from see test 0 xs
 
--- slots that are seen through a function
-module _ {A : Type 0} (see : A → Slot) (xs : List A) where
-  -- going round
-  module _ (n i k : ℕ) (d : A) (there : k < length xs) (more : i < n) where
-    turn : free_from (map see xs) (n - i) k ≡ cond (is_free (see (get_or xs k d))) (Some k) (free_from (map see xs) (n - (i + 1)) (next k))
-    turn =
-        let e : n - i ≡ suc (n - (i + 1)) = omega arith in
-        ap (λ (j : ℕ). free_from (map see xs) j k) e
-        ∙ ap (λ (x : Slot). cond (is_free x) (Some k) (free_from (map see xs) (n - (i + 1)) (next k))) (get_or-map see xs k d free there)
+-- going round
+module _ (xs : List Slot) (n i k : ℕ) (more : i < n) where
+  turn : free_from xs (n - i) k ≡ cond (is_free (get_or xs k free)) (Some k) (free_from xs (n - (i + 1)) (next k))
+  turn = let e : n - i ≡ suc (n - (i + 1)) = omega arith in ap (λ (j : ℕ). free_from xs j k) e
 
-    pub free_here : is_free (see (get_or xs k d)) ≡ true → free_from (map see xs) (n - i) k ≡ Some k
-    free_here h = turn ∙ cond-true (is_free (see (get_or xs k d))) (Some k) _ h
+  pub free_here : is_free (get_or xs k free) ≡ true → free_from xs (n - i) k ≡ Some k
+  free_here h = turn ∙ cond-true (is_free (get_or xs k free)) (Some k) _ h
 
-    pub free_later : is_free (see (get_or xs k d)) ≡ false → free_from (map see xs) (n - i) k ≡ free_from (map see xs) (n - (i + 1)) (next k)
-    free_later h = turn ∙ cond-false (is_free (see (get_or xs k d))) (Some k) _ h
+  pub free_later : is_free (get_or xs k free) ≡ false → free_from xs (n - i) k ≡ free_from xs (n - (i + 1)) (next k)
+  free_later h = turn ∙ cond-false (is_free (get_or xs k free)) (Some k) _ h

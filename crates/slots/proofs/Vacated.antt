@@ -1,7 +1,7 @@
 -- Slots that are cleared one after the other, where they pass a test.
-use Rattle.std.proofs.Common.{◌≡◌, ℕ, ◌+◌, ◌<◌, ◌≤◌, Bool, cond, List, ◌++◌, map, length, get_or, take, drop, set, sym, ap, ◌∙◌}
+use Rattle.std.proofs.Common.{◌≡◌, ℕ, ◌+◌, ◌<◌, Bool, cond, List, ◌++◌, map, length, get_or, take, drop, set, sym, ◌∙◌}
 use Rattle.std.proofs.lemmas.List.Edits.{map_over_more}
-use Rattle.std.proofs.lemmas.List.{get_or-map, take_all, drop_all, append-nil}
+use Rattle.std.proofs.lemmas.List.{get_or-map}
 use Rattle.slots.specs.Searches.{vacated}
 use Rattle.slots.specs.Slides.{Slot, free}
 use Rattle.slots.proofs.Changed.{write_map}

@@ -1,6 +1,6 @@
 // Finding slots, and clearing those that pass a test.
 ghost use Rattle.std.specs.Prelude.{◌≡◌, ◌<◌, map, length, IfSome, if◌then◌else◌, None, nat_lt, slice_index_or};
-ghost use Rattle.slots.specs.Searches.{first_slot, next, free_from, first_free, vacated};
+ghost use Rattle.slots.specs.Searches.{first_slot, free_from, first_free, vacated};
 ghost use Rattle.slots.specs.Seen.{seen, label, all_seen, all_names, index_of};
 ghost use Rattle.slots.specs.Slides.{free};
 ghost use Rattle.header.specs.Kept.{no_name};
@@ -15,33 +15,6 @@ pub fn find<T: SlotTest>(records: &[Slot], test: &T) -> Option<usize>
     ensures within { IfSome result (λ k. k < length records.now) }
 {
     records.iter().position(|slot| test.passes(slot))
-}
-
-// The slot behind slot k, going round.
-fn next(k: usize) -> usize
-    requires { k < 12 }
-    ensures value { result ≡ next k }
-    ensures within { result < 12 }
-{
-    if k == 11 { 0 } else { k + 1 }
-}
-
-// The first free one among n of these slots, from slot k on, going round. A chain over two parts of the slots, or over
-// remainders, would be no plainer than the step that the rule itself is told by.
-fn free_from(records: &[Slot], n: usize, k: usize) -> Option<usize>
-    requires twelve { length records.now ≡ 12 }
-    requires within { k < 12 }
-    ensures value { result ≡ free_from (map seen records.now) n k }
-    ensures within { IfSome result (λ i. i < 12) }
-{
-    let mut at = k;
-    for _tried in 0..n {
-        if Free.passes(&records[at]) {
-            return Some(at);
-        }
-        at = next(at);
-    }
-    None
 }
 
 // Clears every slot of these that passes the test.
@@ -72,15 +45,28 @@ impl Slots {
         &self.records[k.get()]
     }
 
+    // The first free one among n slots, from slot k on, going round. A chain over two parts of the slots, or over remainders,
+    // would be no plainer than the step that the rule itself is told by.
+    fn free_from(&self, n: usize, k: SlotIndex) -> Option<SlotIndex>
+        ensures { index_of result ≡ free_from (all_seen self.now) n k.index }
+    {
+        let mut at = k;
+        for _tried in 0..n {
+            if Free.passes(self.at(at)) {
+                return Some(at);
+            }
+            at = at.next();
+        }
+        None
+    }
+
     // The first free slot behind slot `recent`, which was given last, going round and ending with that one; none where
     // no slot is free, or where there is no slot `recent`.
     pub fn first_free(&self, recent: usize) -> Option<SlotIndex>
         ensures { index_of result ≡ (if nat_lt recent 12 then first_free (all_seen self.now) recent else None) }
     {
-        if recent >= 12 {
-            return None;
-        }
-        SlotIndex::new(free_from(&self.records, 12, next(recent))?)
+        let recent = SlotIndex::new(recent)?;
+        self.free_from(12, recent.next())
     }
 
     // Clears every slot that passes the test.

@@ -13,14 +13,18 @@ use header::kinds::{Category, Header};
 use header::names::Name;
 use moment::times::Time;
 
+// The version that a header gives; a missing one is 0.
+pub fn version_of(header: &Header<'_>) -> u8
+    ensures { result ≡ (image_of (record_of header.now)).version }
+{
+    header.version.unwrap_or(0)
+}
+
 // The category that a header gives: 00 00 means none.
 pub fn real_category(category: Option<Category>) -> Option<Category>
     ensures { result ≡ category_of category }
 {
-    match category {
-        Some(given) if given.category == 0 && given.slide == 0 => None,
-        _ => category,
-    }
+    category.filter(|given| given.category != 0 || given.slide != 0)
 }
 
 impl Arrival {
@@ -32,7 +36,7 @@ impl Arrival {
             transport,
             number,
             subtype: header.subtype,
-            version: header.version.unwrap_or(0),
+            version: version_of(header),
             expire: header.expire,
             trigger: header.trigger,
             category: real_category(header.category),
@@ -49,7 +53,7 @@ impl Arrival {
         self.progress.size == header.body_size
             && self.subtype == header.subtype
             && name.is(header.name)
-            && self.version == header.version.unwrap_or(0)
+            && self.version == version_of(header)
             && self.expire == header.expire
             && self.trigger == header.trigger
             && self.category == real_category(header.category)
@@ -67,11 +71,7 @@ impl<'a> SlotTest for ComesAgain<'a> {
     ghost test = { λ t x. comes_again t.transport (image_of (record_of t.header)) x };
 
     fn passes(&self, slot: &Slot) -> bool {
-        match slot.state {
-            State::Arriving(arrival) => {
-                arrival.transport == self.transport && arrival.same_image(&slot.name, &self.header)
-            }
-            _ => false,
-        }
+        matches!(slot.state, State::Arriving(arrival)
+            if arrival.transport == self.transport && arrival.same_image(&slot.name, &self.header))
     }
 }

@@ -1,8 +1,9 @@
 // Which slot: an index that is proved to be that of a slot.
 ghost use Rattle.std.specs.Prelude.{◌≡◌, ◌<◌, ◌≤◌, MatchOption};
+ghost use Rattle.slots.specs.Searches.{next};
 
 // The index of one of the twelve slots, 0 to 11.
-#[derive(Clone, Copy)]
+#[derive(Clone, Copy, PartialEq, Eq, Debug)]
 pub struct SlotIndex {
     index: usize,
     ghost within: { index < 12 },
@@ -32,5 +33,22 @@ impl SlotIndex {
         ensures { (result ≡ self.index) × (result < 12) }
     {
         self.index
+    }
+
+    // The slot behind it, going round.
+    pub fn next(self) -> SlotIndex
+        ensures { result.index ≡ next self.index }
+    {
+        let behind = if self.index == 11 { 0 } else { self.index + 1 };
+        SlotIndex { index: behind }
+    }
+}
+
+// The index as an entry carries it.
+impl From<SlotIndex> for u32 {
+    ghost from_gives = { λ k n. n ≡ k.index };
+
+    fn from(k: SlotIndex) -> u32 {
+        k.index as u32
     }
 }

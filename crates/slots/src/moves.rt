@@ -45,12 +45,7 @@ impl Arrival {
         if !arrival.progress.is_complete() {
             return State::Arriving(arrival);
         }
-        State::Held(Holding {
-            number: arrival.number,
-            version: arrival.version,
-            expire: arrival.expire,
-            size: arrival.progress.size,
-        })
+        State::Held(Holding::from(arrival))
     }
 }
 

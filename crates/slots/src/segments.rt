@@ -31,25 +31,24 @@ impl Progress {
     fn agrees(&self, piece: usize) -> bool
         ensures { result ≡ agrees self.now.piece piece }
     {
-        match self.piece {
-            None => true,
-            Some(fixed) => piece == fixed,
-        }
+        self.piece.is_none_or(|fixed| piece == fixed)
     }
 
     // Whether a segment that is not the last fits.
-    fn inner_fits(&self, number: u16, length: usize) -> bool
-        requires { number < 64 }
-        ensures { result ≡ inner_fits self.now.piece self.now.size number length }
+    fn inner_fits(&self, segment: Segment) -> bool
+        requires { segment.number < 64 }
+        ensures { result ≡ inner_fits self.now.piece self.now.size segment.number segment.length }
     {
+        let Segment { number, length, .. } = segment;
         let size = self.size as usize;
-        self.agrees(length) && length < size && (number as usize + 1) * length < size
+        self.agrees(length) && length < size && (usize::from(number) + 1) * length < size
     }
 
     // Whether a last segment fits.
-    fn last_fits(&self, number: u16, length: usize) -> bool
-        ensures { result ≡ last_fits self.now.piece self.now.size number length }
+    fn last_fits(&self, segment: Segment) -> bool
+        ensures { result ≡ last_fits self.now.piece self.now.size segment.number segment.length }
     {
+        let Segment { number, length, .. } = segment;
         let size = self.size as usize;
         if number == 0 {
             return length == size && self.piece.is_none();
@@ -58,7 +57,7 @@ impl Progress {
             return false;
         }
         let before = size - length;
-        let count = number as usize;
+        let count = usize::from(number);
         before % count == 0 && length <= before / count && self.agrees(before / count)
     }
 
@@ -79,11 +78,11 @@ impl Progress {
             return Landing::Again;
         }
         if last {
-            if self.last_fits(number, length) {
+            if self.last_fits(segment) {
                 return Landing::At(size - length);
             }
-        } else if self.inner_fits(number, length) {
-            return Landing::At(number as usize * length);
+        } else if self.inner_fits(segment) {
+            return Landing::At(usize::from(number) * length);
         }
         Landing::Misfit
     }
@@ -108,7 +107,7 @@ impl Progress {
         if number == 0 {
             self.piece = Some(length);
         } else {
-            self.piece = Some((self.size as usize - length) / number as usize);
+            self.piece = Some((self.size as usize - length) / usize::from(number));
         }
     }
 
@@ -141,9 +140,6 @@ impl Progress {
     pub fn is_complete(&self) -> bool
         ensures { result ≡ complete self.now }
     {
-        match self.last {
-            None => false,
-            Some(last) => self.covers(last),
-        }
+        self.last.is_some_and(|last| self.covers(last))
     }
 }

@@ -37,10 +37,7 @@ impl SlotTest for Arriving {
     ghost test = { λ t x. comes t.0 x };
 
     fn passes(&self, slot: &Slot) -> bool {
-        match slot.state {
-            State::Arriving(arrival) => arrival.transport == self.0,
-            _ => false,
-        }
+        matches!(slot.state, State::Arriving(arrival) if arrival.transport == self.0)
     }
 }
 
@@ -64,10 +61,7 @@ impl SlotTest for Numbered {
     ghost test = { λ t x. numbered t.0 x };
 
     fn passes(&self, slot: &Slot) -> bool {
-        match slot.state {
-            State::Held(holding) => holding.number == self.0,
-            _ => false,
-        }
+        matches!(slot.state, State::Held(holding) if holding.number == self.0)
     }
 }
 
@@ -79,10 +73,7 @@ impl<'a> SlotTest for Named<'a> {
     ghost test = { λ t x. named (name_of_label t.0) x };
 
     fn passes(&self, slot: &Slot) -> bool {
-        match slot.state {
-            State::Held(_) => slot.name.is(self.0),
-            _ => false,
-        }
+        matches!(slot.state, State::Held(_) if slot.name.is(self.0))
     }
 }
 
@@ -97,9 +88,7 @@ impl<'a> SlotTest for Versioned<'a> {
     ghost test = { λ t x. versioned (name_of_label t.name) t.version x };
 
     fn passes(&self, slot: &Slot) -> bool {
-        match slot.state {
-            State::Held(holding) => { slot.name.is(self.name) && holding.version == self.version }
-            _ => false,
-        }
+        matches!(slot.state, State::Held(holding)
+            if slot.name.is(self.name) && holding.version == self.version)
     }
 }
