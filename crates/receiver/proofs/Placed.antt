@@ -19,10 +19,12 @@ module _ (s : State) (h : Sound s) (n : ℕ) (t : any (numbered n) s.slots ≡ t
   abbrev stays : Entry (ℕ × ℕ) → Bool
   stays e = not (eqb e.load n || (eqb e.key.0 k.category && eqb e.key.1 k.slide))
 
-  abbrev entry : Entry (ℕ × ℕ)
-  entry = record { key = (k.category, k.slide); load = n }
+  abbrev entry : ℕ × ℕ → Entry (ℕ × ℕ)
+  entry p = record { key = p; load = n }
 
-  pub put_in : (r : Bool) (xs zs : List (Entry (ℕ × ℕ))) → xs ≡ filter stays s.places → r ≡ ltb (length xs) 12 → zs ≡ cond r (shelved by_place entry xs) xs → zs ≡ in_category (Some k) n s.places
-  put_in r xs zs e room list =
+  pub put_in : (p : ℕ × ℕ) (r : Bool) (xs zs : List (Entry (ℕ × ℕ))) → p ≡ (k.category, k.slide) → xs ≡ filter stays s.places → r ≡ ltb (length xs) 12 → zs ≡ cond r (shelved by_place (entry p) xs) xs → zs ≡ in_category (Some k) n s.places
+  put_in p r xs zs q e room list =
       let few : length xs ≤ 11 = rw e (places_room s h stays n t (λ d v. not_first (eqb d.load n) _ v)) in
-      put_there r xs (shelved by_place entry xs) zs room list few ∙ ap (shelved by_place entry) e
+      put_there r xs (shelved by_place (entry p) xs) zs room list few
+      ∙ ap (λ x. shelved by_place (entry x) xs) q
+      ∙ ap (shelved by_place (entry (k.category, k.slide))) e

@@ -1,5 +1,5 @@
 -- A segment call by what is found, and where the segment lands.
-use Rattle.std.proofs.Common.{◌≡◌, ℕ, ◌+◌, ◌*◌, ◌<◌, ◌≤◌, Bool, true, false, List, Some, None, Option, sym, refl, ap, ◌∙◌, arith}
+use Rattle.std.proofs.Common.{◌≡◌, ℕ, ◌+◌, ◌*◌, ◌<◌, ◌≤◌, Bool, true, false, List, Some, None, Option, Err, Result, sym, refl, ap, ◌∙◌, arith}
 use Rattle.refusal.specs.declared.causes.Cause.TheVariants.{BodyMemoryMisfit, NotArriving}
 use Rattle.rules.specs.Assembly.{assembly_fault, on_arriving, on_landing, segment_of, segment_step}
 use Rattle.rules.specs.Headers.{receiver_fault, on_some}
@@ -18,6 +18,14 @@ use Rattle.slots.specs.declared.progress.Landing.TheVariants.{At}
 use Rattle.slots.specs.declared.progress.Progress.{Progress}
 use Rattle.slots.specs.declared.progress.Segment.{Segment}
 use Rattle.std.proofs.lemmas.Bool.{cond-true, cond-false}
+use Rattle.std.specs.Option.{ok_or}
+
+-- the refusal of nothing is the one that was given for it
+module _ {A E : Type 0} where
+  pub refusal_given : (o : Option A) (x e : E) → Err x ≡ ok_or o e → o ≡ None → x ≡ e
+  refusal_given o x e v n =
+      let q : ◌≡◌ {A = Result A E} (Err x) (Err e) = v ∙ ap (λ (p : Option A). ok_or p e) n in
+      cc
 
 module _ (w : World) (t n : ℕ) (last : Bool) (xs : List ℕ) where
   abbrev misfit : Answer × World

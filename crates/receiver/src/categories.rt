@@ -19,7 +19,7 @@ impl Parts {
             None => self.places.keep(&Other(number)),
             Some(category) => {
                 self.places.keep(&Elsewhere { number, category });
-                let _ = self.places.put((category.category, category.slide), number);
+                let _ = self.places.put(category.into(), number);
             }
         }
     }

@@ -3,6 +3,7 @@ ghost use Rattle.std.specs.Prelude.{◌≡◌, ◌&&◌, None};
 ghost use Rattle.receiver.specs.Views.{state_of};
 ghost use Rattle.rules.specs.Headers.{is_held, idle, lower, oldest_from, slot_for};
 ghost use Rattle.rules.specs.Worlds.{slot_at};
+ghost use Rattle.slots.specs.Searches.{first_free};
 ghost use Rattle.slots.specs.Seen.{all_seen, index_of};
 ghost use Rattle.slots.specs.Slides.{number_in};
 
@@ -26,13 +27,10 @@ impl Parts {
         let Some(holding) = self.slots.at(k).holding() else {
             return false;
         };
-        if !is_idle(self.waiting.list(), k.get() as u32) {
+        if !is_idle(self.waiting.list(), k.into()) {
             return false;
         }
-        match best {
-            None => true,
-            Some(j) => holding.number < self.number_at(j),
-        }
+        best.is_none_or(|j| holding.number < self.number_at(j))
     }
 
     // The slot of the held slide with the lowest number among those for which no trigger waits.
@@ -51,17 +49,21 @@ impl Parts {
         best
     }
 
+    // The next free slot behind the one given last.
+    fn next_free(&self) -> Option<SlotIndex>
+        ensures { index_of result ≡ first_free (state_of self.now).slots (state_of self.now).recent }
+    {
+        self.slots.first_free(self.recent.get())
+    }
+
     // The slot for an object: where its TransportId arrives, else the next free one, else that of the oldest slide which
     // no trigger keeps.
     pub(crate) fn slot_for(&self, transport: u16) -> Option<SlotIndex>
         ensures { index_of result ≡ slot_for (state_of self.now) transport }
     {
-        if let Some(k) = self.slots.find(&Arriving(transport)) {
-            return Some(k);
-        }
-        if let Some(k) = self.slots.first_free(self.recent.get()) {
-            return Some(k);
-        }
-        self.oldest()
+        self.slots
+            .find(&Arriving(transport))
+            .or_else(|| self.next_free())
+            .or_else(|| self.oldest())
     }
 }

@@ -11,12 +11,12 @@ ghost use Rattle.slots.specs.Segments.{after_segment, complete};
 ghost use Rattle.slots.specs.Slides.{arriving, held, named, slide_of};
 
 use crate::parts::Parts;
-use crate::sieves::Called;
 use display::Display;
 use rules::answers::Answer;
 use slots::indices::SlotIndex;
 use slots::progress::Segment;
 use slots::records::{Arrival, Event};
+use slots::sought::Named;
 
 impl Parts {
     // Slot, arrival and segment stay three arguments: each is used on its own, and what is required of them is said of this
@@ -38,7 +38,8 @@ impl Parts {
         ensures answer { result ≡ told_filing (verdict self.old.clock arrival.trigger) arrival.number }
         ensures world { world_of self.new memory.now (D.Display.meaning display.new) ≡ filed k.index (more (object_at self.old k.index arrival) segment) (with_segment k.index (object_at self.old k.index arrival) segment (world_of self.old memory.now (D.Display.meaning display.old))) }
     {
-        self.vacate(&Called(self.name_at(k)));
+        let name = self.name_at(k);
+        self.vacate(&Named(name.label()));
         self.slots.on(k.get(), Event::Segment(segment));
         self.categorise(arrival.category, arrival.number);
         self.arm(display, memory, k, arrival.trigger)

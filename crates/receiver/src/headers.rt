@@ -24,8 +24,8 @@ impl Parts {
         self.admit(memory)?;
         let header = read_header(bytes, self.room)?;
         match header.kind {
-            Kind::Image => Ok(self.image(transport, &header)),
-            Kind::Update => Ok(self.update(display, memory, &header)),
+            Kind::Image => self.image(transport, &header),
+            Kind::Update => self.update(display, memory, &header),
         }
     }
 }

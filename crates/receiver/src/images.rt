@@ -6,7 +6,7 @@ ghost use Rattle.header.specs.Headers.{record_of};
 ghost use Rattle.header.specs.Kept.{name_of};
 ghost use Rattle.rack.specs.Listed.{filed};
 ghost use Rattle.receiver.specs.Images.{AnnouncesImage};
-ghost use Rattle.receiver.specs.Views.{state_of, world_of};
+ghost use Rattle.receiver.specs.Views.{state_of, world_of, said};
 ghost use Rattle.rules.specs.Headers.{begun, new_image, image_step};
 ghost use Rattle.slots.specs.Seen.{all_seen};
 ghost use Rattle.slots.specs.Slides.{free, image_of, numbered, passed};
@@ -17,8 +17,9 @@ use header::kinds::Header;
 use header::names::Name;
 use rack::racks::Places;
 use rack::sieves::Other;
+use refusal::Fault;
 use rules::answers::Answer;
-use slots::images::ComesAgain;
+use slots::images::{ComesAgain, version_of};
 use slots::indices::SlotIndex;
 use slots::moves::passed;
 use slots::records::{Arrival, Slots};
@@ -47,7 +48,7 @@ impl Parts {
         ensures { state_of self.new ≡ begun k.index transport (image_of (record_of header.now)) (state_of self.old) }
     {
         forget(&mut self.places, &self.slots, k);
-        self.waiting.keep(&Other(k.get() as u32));
+        self.waiting.keep(&Other(k.into()));
         self.given += 1;
         self.slots
             .take(k.get(), Arrival::new(transport, self.given, header), name);
@@ -55,44 +56,42 @@ impl Parts {
     }
 
     // Begins the object of a new image: it must expire above the clock, and there must be a slot and a number for it.
-    pub(crate) fn new_image(&mut self, transport: u16, header: &Header<'_>) -> Answer
+    pub(crate) fn new_image(&mut self, transport: u16, header: &Header<'_>) -> Result<Answer, Fault>
         requires { AnnouncesImage self.old.room (record_of header.now) }
-        ensures { (m : Meaning) (memory : List ℕ) → (result, world_of self.new memory m) ≡ new_image (world_of self.old memory m) transport (image_of (record_of header.now)) }
+        ensures { (m : Meaning) (memory : List ℕ) → (said result, world_of self.new memory m) ≡ new_image (world_of self.old memory m) transport (image_of (record_of header.now)) }
     {
         if passed(self.clock, header.expire) {
-            return Answer::Refused(EXPIRY_NOT_AHEAD);
+            return Err(EXPIRY_NOT_AHEAD);
         }
         if self.given == LAST_NUMBER {
-            return Answer::Refused(NO_SLOT_TO_USE);
+            return Err(NO_SLOT_TO_USE);
         }
-        let Some(k) = self.slot_for(transport) else {
-            return Answer::Refused(NO_SLOT_TO_USE);
-        };
+        let k = self.slot_for(transport).ok_or(NO_SLOT_TO_USE)?;
         let Some(name) = Name::new(header.name) else {
             unreachable!()
         };
         self.begin(k, transport, header, name);
-        Answer::Taken(self.given)
+        Ok(Answer::Taken(self.given))
     }
 
     // Takes an image header: a repeat if a slide of its name and version is held, or if it arrives just so.
-    pub(crate) fn image(&mut self, transport: u16, header: &Header<'_>) -> Answer
+    pub(crate) fn image(&mut self, transport: u16, header: &Header<'_>) -> Result<Answer, Fault>
         requires { AnnouncesImage self.old.room (record_of header.now) }
-        ensures { (m : Meaning) (memory : List ℕ) → (result, world_of self.new memory m) ≡ image_step (world_of self.old memory m) transport (image_of (record_of header.now)) }
+        ensures { (m : Meaning) (memory : List ℕ) → (said result, world_of self.new memory m) ≡ image_step (world_of self.old memory m) transport (image_of (record_of header.now)) }
     {
         let versioned = Versioned {
             name: header.name,
-            version: header.version.unwrap_or(0),
+            version: version_of(header),
         };
         if let Some(k) = self.slots.find(&versioned) {
-            return Answer::Repeat(self.number_at(k));
+            return Ok(Answer::Repeat(self.number_at(k)));
         }
         let again = ComesAgain {
             transport,
             header: *header,
         };
         if let Some(k) = self.slots.find(&again) {
-            return Answer::Repeat(self.number_at(k));
+            return Ok(Answer::Repeat(self.number_at(k)));
         }
         self.new_image(transport, header)
     }

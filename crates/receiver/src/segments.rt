@@ -25,12 +25,8 @@ impl Parts {
         ensures { (said result, world_of self.new memory.new (D.Display.meaning display.new)) ≡ segment_step (world_of self.old memory.old (D.Display.meaning display.old)) transport sent.now.number sent.now.last sent.now.bytes.now }
     {
         self.admit(memory)?;
-        let Some(k) = self.slots.find(&Arriving(transport)) else {
-            return Err(NOT_ARRIVING);
-        };
-        let Some(arrival) = self.arrival_at(k) else {
-            return Err(NOT_ARRIVING);
-        };
+        let k = self.slots.find(&Arriving(transport)).ok_or(NOT_ARRIVING)?;
+        let arrival = self.arrival_at(k).ok_or(NOT_ARRIVING)?;
         let segment = Segment::from(*sent);
         match arrival.progress.landing(segment) {
             Landing::Misfit => Err(SEGMENT_MISFIT),

@@ -11,22 +11,7 @@ use rack::sieves::EntryTest;
 use shelf::entries::Entry;
 use slots::indices::SlotIndex;
 use slots::records::{Slot, Slots, State};
-use slots::sought::SlotTest;
-
-// It holds the slide of this name, which is kept.
-#[derive(Drop)]
-pub(crate) struct Called(pub(crate) Name);
-
-impl SlotTest for Called {
-    ghost test = { λ t x. named (name_of t.0) x };
-
-    fn passes(&self, slot: &Slot) -> bool {
-        match slot.state {
-            State::Held(_) => slot.name.equals(&self.0),
-            _ => false,
-        }
-    }
-}
+use slots::sought::{Numbered, SlotTest};
 
 // It passes the test and holds the slide with this accession number.
 #[derive(Drop)]
@@ -39,10 +24,7 @@ impl<'a, T: SlotTest> SlotTest for AlsoNumbered<'a, T> {
     ghost test = { λ t x. T.SlotTest.test t.test.now x && numbered t.number x };
 
     fn passes(&self, slot: &Slot) -> bool {
-        match slot.state {
-            State::Held(holding) => self.test.passes(slot) && holding.number == self.number,
-            _ => false,
-        }
+        self.test.passes(slot) && Numbered(self.number).passes(slot)
     }
 }
 
@@ -116,6 +98,6 @@ impl EntryTest<(u8, u8)> for Elsewhere {
     ghost test = { λ t e. not (e.load == t.number || (e.key.0 == t.category.category && e.key.1 == t.category.slide)) };
 
     fn passes(&self, entry: &Entry<(u8, u8)>) -> bool {
-        entry.load != self.number && entry.key != (self.category.category, self.category.slide)
+        entry.load != self.number && entry.key != self.category.into()
     }
 }

@@ -45,7 +45,7 @@ impl Parts {
         ensures answer { verdict_of result ≡ verdict self.old.clock trigger }
         ensures world { world_of self.new memory.now (D.Display.meaning display.new) ≡ armed (verdict_of result) k.index (world_of self.old memory.now (D.Display.meaning display.old)) }
     {
-        let slot = k.get() as u32;
+        let slot = u32::from(k);
         let verdict = Verdict::at(self.clock, trigger);
         match verdict {
             Verdict::Nothing => {}

@@ -2,7 +2,7 @@
 ghost use Rattle.std.specs.Prelude.{◌≡◌, ℕ, true, List};
 ghost use Rattle.display.specs.Meaning.{Meaning};
 ghost use Rattle.header.specs.Headers.{record_of};
-ghost use Rattle.receiver.specs.Views.{state_of, world_of};
+ghost use Rattle.receiver.specs.Views.{state_of, world_of, said};
 ghost use Rattle.rules.specs.Headers.{recategorised, update_step};
 ghost use Rattle.rules.specs.Worlds.{any};
 ghost use Rattle.slots.specs.Slides.{numbered};
@@ -34,15 +34,15 @@ impl Parts {
         display: &mut D,
         memory: &[u8],
         header: &Header<'_>,
-    ) -> Answer
-        ensures { (result, world_of self.new memory.now (D.Display.meaning display.new)) ≡ update_step (world_of self.old memory.now (D.Display.meaning display.old)) (record_of header.now) }
+    ) -> Result<Answer, Fault>
+        ensures { (said result, world_of self.new memory.now (D.Display.meaning display.new)) ≡ update_step (world_of self.old memory.now (D.Display.meaning display.old)) (record_of header.now) }
     {
-        let Some(k) = self.slots.find(&Named(header.name)) else {
-            return Answer::Refused(NOT_HELD);
-        };
+        let k = self.slots.find(&Named(header.name)).ok_or(NOT_HELD)?;
         let number = self.number_at(k);
         self.recategorise(header.category, number);
-        self.arm(display, memory, k, header.trigger)
-            .told(number, Answer::Changed(number))
+        Ok(
+            self.arm(display, memory, k, header.trigger)
+                .told(number, Answer::Changed(number)),
+        )
     }
 }

@@ -20,8 +20,5 @@ module _ (xs : List Slot) (n i k : ℕ) (more : i < n) where
   turn : free_from xs (n - i) k ≡ cond (is_free (get_or xs k free)) (Some k) (free_from xs (n - (i + 1)) (next k))
   turn = let e : n - i ≡ suc (n - (i + 1)) = omega arith in ap (λ (j : ℕ). free_from xs j k) e
 
-  pub free_here : is_free (get_or xs k free) ≡ true → free_from xs (n - i) k ≡ Some k
-  free_here h = turn ∙ cond-true (is_free (get_or xs k free)) (Some k) _ h
-
   pub free_later : is_free (get_or xs k free) ≡ false → free_from xs (n - i) k ≡ free_from xs (n - (i + 1)) (next k)
   free_later h = turn ∙ cond-false (is_free (get_or xs k free)) (Some k) _ h

@@ -24,7 +24,7 @@ invariant_of-self g c =
     let o : Object = object_at p k c.args.arrival in
     let lt : k < length s.slots = omega (arith, p.slots.twelve, c.args.k.within, length-map p.slots.records seen) in
     let v : State = state_of c.vacate.new.self in
-    let there = held_by s k o u c.requires.arrives lt v (all_seen c.on.new.self) (c.vacate.ensures ∙ ap (λ n. vacate (named n) s) c.name_at.ensures) c.requires.complete (c.on.ensures.seen ∙ ap (λ j. set v.slots j (moved (slides.segment u) (get_or v.slots j free))) c.get.ensures.0) in
+    let there = held_by s k o u c.requires.arrives lt v (all_seen c.on.new.self) (c.vacate.ensures ∙ ap (λ n. vacate (named n) s) (c.label.ensures ∙ c.name_at-name.ensures)) c.requires.complete (c.on.ensures.seen ∙ ap (λ j. set v.slots j (moved (slides.segment u) (get_or v.slots j free))) c.get.ensures.0) in
     record { sound = kept_sound _ _ there (sound_next s k o u c.requires.arrives lt (sound_of p)) }
 
 pub categorise-requires : goal.categorise-requires
@@ -36,7 +36,7 @@ categorise-requires g c =
     let o : Object = object_at p k c.args.arrival in
     let lt : k < length s.slots = omega (arith, p.slots.twelve, c.args.k.within, length-map p.slots.records seen) in
     let v : State = state_of c.vacate.new.self in
-    let there = held_by s k o u c.requires.arrives lt v (all_seen c.on.new.self) (c.vacate.ensures ∙ ap (λ n. vacate (named n) s) c.name_at.ensures) c.requires.complete (c.on.ensures.seen ∙ ap (λ j. set v.slots j (moved (slides.segment u) (get_or v.slots j free))) c.get.ensures.0) in
+    let there = held_by s k o u c.requires.arrives lt v (all_seen c.on.new.self) (c.vacate.ensures ∙ ap (λ n. vacate (named n) s) (c.label.ensures ∙ c.name_at-name.ensures)) c.requires.complete (c.on.ensures.seen ∙ ap (λ j. set v.slots j (moved (slides.segment u) (get_or v.slots j free))) c.get.ensures.0) in
     let f : State = put k (held (slide_of (more o u))) (vacate (named o.image.name) (put k (arriving (more o u)) s)) in
     let j = slot_next s k o u c.requires.arrives lt (sound_of p) in
     ap (λ (x : State). any (numbered o.number) x.slots) there ∙ (ap (λ n. any (numbered n) f.slots) (sym (ap number_in j)) ∙ held_number f k (slide_of (more o u)) j)
@@ -50,7 +50,7 @@ arm-requires g c =
     let o : Object = object_at p k c.args.arrival in
     let lt : k < length s.slots = omega (arith, p.slots.twelve, c.args.k.within, length-map p.slots.records seen) in
     let v : State = state_of c.vacate.new.self in
-    let there = held_by s k o u c.requires.arrives lt v (all_seen c.on.new.self) (c.vacate.ensures ∙ ap (λ n. vacate (named n) s) c.name_at.ensures) c.requires.complete (c.on.ensures.seen ∙ ap (λ j. set v.slots j (moved (slides.segment u) (get_or v.slots j free))) c.get.ensures.0) in
+    let there = held_by s k o u c.requires.arrives lt v (all_seen c.on.new.self) (c.vacate.ensures ∙ ap (λ n. vacate (named n) s) (c.label.ensures ∙ c.name_at-name.ensures)) c.requires.complete (c.on.ensures.seen ∙ ap (λ j. set v.slots j (moved (slides.segment u) (get_or v.slots j free))) c.get.ensures.0) in
     ap (λ (x : State). is_held (slot_at x k)) (c.categorise.ensures ∙ ap (λ (x : State). holding x.slots x.waiting (in_category c.args.arrival.category o.number x.places) x) there) ∙ ap is_held (slot_next s k o u c.requires.arrives lt (sound_of p))
 
 pub returns-clause-world : goal.returns-clause-world
@@ -62,7 +62,7 @@ returns-clause-world g c =
     let o : Object = object_at p k c.args.arrival in
     let lt : k < length s.slots = omega (arith, p.slots.twelve, c.args.k.within, length-map p.slots.records seen) in
     let v : State = state_of c.vacate.new.self in
-    let there = held_by s k o u c.requires.arrives lt v (all_seen c.on.new.self) (c.vacate.ensures ∙ ap (λ n. vacate (named n) s) c.name_at.ensures) c.requires.complete (c.on.ensures.seen ∙ ap (λ j. set v.slots j (moved (slides.segment u) (get_or v.slots j free))) c.get.ensures.0) in
+    let there = held_by s k o u c.requires.arrives lt v (all_seen c.on.new.self) (c.vacate.ensures ∙ ap (λ n. vacate (named n) s) (c.label.ensures ∙ c.name_at-name.ensures)) c.requires.complete (c.on.ensures.seen ∙ ap (λ j. set v.slots j (moved (slides.segment u) (get_or v.slots j free))) c.get.ensures.0) in
     let f : State = put k (held (slide_of (more o u))) (vacate (named o.image.name) (put k (arriving (more o u)) s)) in
     let m = g.D.Display.meaning c.args.display.now in
     let at : State → World = λ x. record { state = x; memory = c.args.memory.now; display = m } in

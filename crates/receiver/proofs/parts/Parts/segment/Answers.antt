@@ -1,10 +1,11 @@
-use Rattle.std.proofs.Common.{◌≡◌, ℕ, ◌+◌, ◌*◌, ◌<◌, ◌≤◌, List, length, ap, ◌∙◌, arith}
+use Rattle.std.proofs.Common.{◌≡◌, ℕ, ◌+◌, ◌*◌, ◌<◌, ◌≤◌, List, length, sym, ap, subst, ◌∙◌, arith}
 use Rattle.packed.specs.Parts.{pasted}
 use Rattle.receiver.proofs.Insides.{sound_of}
-use Rattle.receiver.proofs.Segmented.{segment_misfit, none_arrives, no_object, object_takes, lands_grown, lands_in_memory}
-use Rattle.receiver.specs.Arrivals.{object_at, come_to, laid}
+use Rattle.receiver.proofs.Segmented.{refusal_given, segment_misfit, none_arrives, no_object, object_takes, lands_grown, lands_in_memory}
+use Rattle.receiver.specs.Arrivals.{Arrives, object_at, come_to, laid}
 use Rattle.receiver.specs.Views.{state_of, world_of}
 use Rattle.rules.specs.Assembly.{segment_of}
+use Rattle.slots.specs.Seen.{index_of}
 use Rattle.slots.specs.Segments.{landing}
 use Rattle.slots.specs.Slides.{Object}
 use Rattle.slots.specs.declared.progress.Landing.TheVariants.{Misfit, Again, At}
@@ -17,40 +18,42 @@ returns-in_err-admit g c =
     let p = err_from_is_err_and c.from_residual.result c.from_residual.ensures.1 in
     rw (p.1, p.2, c.in_err-admit.ensures.1) (segment_misfit (world_of c.args.self.now c.args.memory.now (g.D.Display.meaning c.args.display.now)) c.args.transport c.args.sent.now.number c.args.sent.now.last c.args.sent.now.bytes.now (ne_eqb (length c.args.memory.now) (12 * c.args.self.now.room) c.in_err-admit.ensures.0))
 
-pub returns-in_default : goal.returns-in_default
-returns-in_default g c =
-    none_arrives (world_of c.args.self.now c.args.memory.now (g.D.Display.meaning c.args.display.now)) c.args.transport c.args.sent.now.number c.args.sent.now.last c.args.sent.now.bytes.now (eq-eqb (length c.args.memory.now) (12 * c.args.self.now.room) c.in_ok-admit.ensures) c.in_default.ensures
+pub returns-in_err-k : goal.returns-in_err-k
+returns-in_err-k g c =
+    let p = err_from_is_err_and c.from_residual-in_err-k.result c.from_residual-in_err-k.ensures.1 in
+    rw (p.1, p.2, refusal_given c.find.result _ _ c.in_err-k.ensures.value c.in_err-k.ensures.ok_part) (none_arrives (world_of c.args.self.now c.args.memory.now (g.D.Display.meaning c.args.display.now)) c.args.transport c.args.sent.now.number c.args.sent.now.last c.args.sent.now.bytes.now (eq-eqb (length c.args.memory.now) (12 * c.args.self.now.room) c.in_ok-admit.ensures) (ap index_of (sym c.in_err-k.ensures.ok_part) ∙ c.find.ensures))
 
-pub returns-in_default-arrival_at : goal.returns-in_default-arrival_at
-returns-in_default-arrival_at g c =
-    no_object (world_of c.args.self.now c.args.memory.now (g.D.Display.meaning c.args.display.now)) c.args.transport c.args.sent.now.number c.args.sent.now.last c.args.sent.now.bytes.now c.in-Some.k.index (eq-eqb (length c.args.memory.now) (12 * c.args.self.now.room) c.in_ok-admit.ensures) c.in-Some.ensures c.in_default-arrival_at.ensures
+pub returns-in_err-arrival : goal.returns-in_err-arrival
+returns-in_err-arrival g c =
+    let p = err_from_is_err_and c.from_residual-in_err-arrival.result c.from_residual-in_err-arrival.ensures.1 in
+    rw (p.1, p.2, refusal_given c.arrival_at.result _ _ c.in_err-arrival.ensures.value c.in_err-arrival.ensures.ok_part) (no_object (world_of c.args.self.now c.args.memory.now (g.D.Display.meaning c.args.display.now)) c.args.transport c.args.sent.now.number c.args.sent.now.last c.args.sent.now.bytes.now c.in_ok-k.k.index (eq-eqb (length c.args.memory.now) (12 * c.args.self.now.room) c.in_ok-admit.ensures) (ap index_of (sym c.in_ok-k.ensures.ok_part) ∙ c.find.ensures) (subst (Arrives c.args.self.now c.in_ok-k.k.index) c.in_err-arrival.ensures.ok_part c.arrival_at.ensures))
 
 pub returns-in-Misfit : goal.returns-in-Misfit
 returns-in-Misfit g c =
-    object_takes (world_of c.args.self.now c.args.memory.now (g.D.Display.meaning c.args.display.now)) c.args.transport c.args.sent.now.number c.args.sent.now.last c.args.sent.now.bytes.now c.in-Some.k.index (object_at c.args.self.now c.in-Some.k.index c.in-Some-arrival_at.arrival) Misfit (eq-eqb (length c.args.memory.now) (12 * c.args.self.now.room) c.in_ok-admit.ensures) c.in-Some.ensures c.in-Some-arrival_at.ensures (c.in-Misfit.ensures ∙ ap (landing c.in-Some-arrival_at.arrival.progress) c.from-segment.ensures)
+    object_takes (world_of c.args.self.now c.args.memory.now (g.D.Display.meaning c.args.display.now)) c.args.transport c.args.sent.now.number c.args.sent.now.last c.args.sent.now.bytes.now c.in_ok-k.k.index (object_at c.args.self.now c.in_ok-k.k.index c.in_ok-arrival.arrival) Misfit (eq-eqb (length c.args.memory.now) (12 * c.args.self.now.room) c.in_ok-admit.ensures) (ap index_of (sym c.in_ok-k.ensures.ok_part) ∙ c.find.ensures) (subst (Arrives c.args.self.now c.in_ok-k.k.index) c.in_ok-arrival.ensures.ok_part c.arrival_at.ensures) (c.in-Misfit.ensures ∙ ap (landing c.in_ok-arrival.arrival.progress) c.from-segment.ensures)
 
 pub returns-in-Again : goal.returns-in-Again
 returns-in-Again g c =
-    object_takes (world_of c.args.self.now c.args.memory.now (g.D.Display.meaning c.args.display.now)) c.args.transport c.args.sent.now.number c.args.sent.now.last c.args.sent.now.bytes.now c.in-Some.k.index (object_at c.args.self.now c.in-Some.k.index c.in-Some-arrival_at.arrival) Again (eq-eqb (length c.args.memory.now) (12 * c.args.self.now.room) c.in_ok-admit.ensures) c.in-Some.ensures c.in-Some-arrival_at.ensures (c.in-Again.ensures ∙ ap (landing c.in-Some-arrival_at.arrival.progress) c.from-segment.ensures)
+    object_takes (world_of c.args.self.now c.args.memory.now (g.D.Display.meaning c.args.display.now)) c.args.transport c.args.sent.now.number c.args.sent.now.last c.args.sent.now.bytes.now c.in_ok-k.k.index (object_at c.args.self.now c.in_ok-k.k.index c.in_ok-arrival.arrival) Again (eq-eqb (length c.args.memory.now) (12 * c.args.self.now.room) c.in_ok-admit.ensures) (ap index_of (sym c.in_ok-k.ensures.ok_part) ∙ c.find.ensures) (subst (Arrives c.args.self.now c.in_ok-k.k.index) c.in_ok-arrival.ensures.ok_part c.arrival_at.ensures) (c.in-Again.ensures ∙ ap (landing c.in_ok-arrival.arrival.progress) c.from-segment.ensures)
 
 pub returns-in-At : goal.returns-in-At
 returns-in-At g c =
     let p = c.args.self.now in
-    let k = c.in-Some.k.index in
-    let o : Object = object_at c.args.self.now c.in-Some.k.index c.in-Some-arrival_at.arrival in
+    let k = c.in_ok-k.k.index in
+    let o : Object = object_at c.args.self.now c.in_ok-k.k.index c.in_ok-arrival.arrival in
     let xs = c.args.sent.now.bytes.now in
     let u = segment_of c.args.sent.now.number c.args.sent.now.last xs in
-    let lands = c.in-At.ensures ∙ ap (landing c.in-Some-arrival_at.arrival.progress) c.from-segment.ensures in
+    let lands = c.in-At.ensures ∙ ap (landing c.in_ok-arrival.arrival.progress) c.from-segment.ensures in
     let at = k * p.room + c.in-At.offset in
     let m = g.D.Display.meaning c.args.display.now in
-    let lt : k < 12 = c.in-Some.k.within in
+    let lt : k < 12 = c.in_ok-k.k.within in
     let put_at = c.get.result * p.room + c.in-At.offset in
     let same : put_at ≡ at = ap (λ j. j * p.room + c.in-At.offset) c.get.ensures.0 in
-    let within : put_at + length xs ≤ length c.args.memory.now = omega (arith, same, lands_in_memory (state_of p) (sound_of p) k o c.in-Some-arrival_at.ensures lt u c.in-At.offset lands, c.in_ok-admit.ensures) in
+    let within : put_at + length xs ≤ length c.args.memory.now = omega (arith, same, lands_in_memory (state_of p) (sound_of p) k o (subst (Arrives c.args.self.now c.in_ok-k.k.index) c.in_ok-arrival.ensures.ok_part c.arrival_at.ensures) lt u c.in-At.offset lands, c.in_ok-admit.ensures) in
     let e : c.paste.new.memory ≡ pasted c.args.memory.now at xs =
     c.paste.ensures.after ∙ cond-true c.paste.result (pasted c.args.memory.now put_at xs) c.args.memory.now (c.paste.ensures.fits ∙ le-leb (put_at + length xs) (length c.args.memory.now) within) ∙ ap (λ i. pasted c.args.memory.now i xs) same in
     c.lay.ensures
     ∙ (ap (λ q. laid k o q (world_of p c.paste.new.memory m)) c.from-segment.ensures
     ∙ ap (λ (x : List ℕ). laid k o u (world_of p x m)) e
     ∙ ap (λ q. come_to k o q (world_of p (pasted c.args.memory.now at xs) m)) (lands_grown o.progress u c.in-At.offset lands)
-    ∙ object_takes (world_of c.args.self.now c.args.memory.now (g.D.Display.meaning c.args.display.now)) c.args.transport c.args.sent.now.number c.args.sent.now.last c.args.sent.now.bytes.now c.in-Some.k.index (object_at c.args.self.now c.in-Some.k.index c.in-Some-arrival_at.arrival) (At c.in-At.offset) (eq-eqb (length c.args.memory.now) (12 * c.args.self.now.room) c.in_ok-admit.ensures) c.in-Some.ensures c.in-Some-arrival_at.ensures lands)
+    ∙ object_takes (world_of c.args.self.now c.args.memory.now (g.D.Display.meaning c.args.display.now)) c.args.transport c.args.sent.now.number c.args.sent.now.last c.args.sent.now.bytes.now c.in_ok-k.k.index (object_at c.args.self.now c.in_ok-k.k.index c.in_ok-arrival.arrival) (At c.in-At.offset) (eq-eqb (length c.args.memory.now) (12 * c.args.self.now.room) c.in_ok-admit.ensures) (ap index_of (sym c.in_ok-k.ensures.ok_part) ∙ c.find.ensures) (subst (Arrives c.args.self.now c.in_ok-k.k.index) c.in_ok-arrival.ensures.ok_part c.arrival_at.ensures) lands)
