@@ -61,7 +61,7 @@ lag_in_order d lag t u le = omega arith
 
 pub lag_fits : (d lag : ℕ) → lag ≤ 10000 → lag + acting_delay d lag ≤ 10000
 lag_fits d lag h =
-    cond_both (nat_le (lag + d) 10000) d 0 (λ q. lag + q ≤ 10000) (λ e. leb-true _ _ e) (λ e. omega arith)
+    cond_both (nat_le (lag + (d - 0)) 10000) d 0 (λ q. lag + q ≤ 10000) (λ e. omega (arith, leb-true (lag + (d - 0)) 10000 e)) (λ e. omega arith)
 
 -- so the two layers keep it
 pub edge_over_keeps : (m : Meaning) (p : ℕ) → 1 ≤ p → Keeps m → Keeps (edge_over p m)

@@ -3,28 +3,11 @@ ghost use Rattle.std.specs.Prelude.{◌≡◌, ℕ, ◌+◌, ◌-◌, ◌≤◌}
 ghost use Rattle.display.specs.Layering.{up, acting_period};
 ghost use Rattle.display.specs.Lifted.{edge_not_early, edge_within, edge_in_order, edge_fits};
 
-use crate::MOST_LAG;
 use crate::layers::{Layer, Shift};
 use crate::settings::Period;
 
 // A display that shows only at frame edges, a period apart.
 pub type Edge<D> = Layer<D, Period>;
-
-impl Period {
-    // The period that acts: 1 where the own one would lift the lag too high.
-    fn acting(&self, lag: u64) -> u64
-        ensures value { result ≡ acting_period self.now.value lag }
-        ensures low { 1 ≤ result }
-        ensures high { result ≤ 1000 }
-    {
-        let p = self.value();
-        if lag.saturating_add(p - 1) <= MOST_LAG {
-            p
-        } else {
-            1
-        }
-    }
-}
 
 // To the first multiple of the period that acts.
 impl Shift for Period {

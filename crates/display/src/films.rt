@@ -25,17 +25,15 @@ pub struct Film {
     ghost within: { end_of tape.items last ≤ vec_len tape },
 }
 
-// The number in `size` bytes of the tape. Bytes and a place in them stay two arguments, as of any slice.
+// The number in `size` bytes of the tape. Bytes and a place in them stay two arguments, as of any slice. No from_be_bytes:
+// the bytes are a part of any place, and would have to be an array first.
 fn number_at(tape: &[u8], at: usize, size: usize) -> u64
     requires within { at + size ≤ length tape.now }
     requires small { size ≤ 8 }
     ensures { result ≡ whole (take size (drop at tape.now)) }
 {
     let end = at + size;
-    match number(&tape[at..end]) {
-        Some(n) => n,
-        None => unreachable(),
-    }
+    number(&tape[at..end]).unwrap()
 }
 
 // The numbers in an entry's head.

@@ -3,7 +3,6 @@ ghost use Rattle.std.specs.Prelude.{◌≡◌, ℕ, ◌+◌, ◌≤◌};
 ghost use Rattle.display.specs.Layering.{acting_delay};
 ghost use Rattle.display.specs.Lifted.{lag_not_early, lag_within, lag_in_order, lag_fits};
 
-use crate::MOST_LAG;
 use crate::layers::{Layer, Shift};
 use crate::settings::Delay;
 
@@ -17,16 +16,11 @@ impl Shift for Delay {
     ghost later = { λ d lag t. t + acting_delay d.value lag };
 
     fn most(&self, lag: u64) -> u64 {
-        let d = self.value();
-        if lag.saturating_add(d) <= MOST_LAG {
-            d
-        } else {
-            0
-        }
+        self.acting(lag)
     }
 
     fn later(&self, lag: u64, moment: u64) -> u64 {
-        moment.saturating_add(self.most(lag))
+        moment.saturating_add(self.acting(lag))
     }
 
     ghost not_early = { λ d lag t. lag_not_early d.value lag t };

@@ -64,9 +64,7 @@ impl<D: Display, S: Shift> Display for Layer<D, S> {
     ghost keeps = { λ l. layer_keeps _ _ _ (S.Shift.not_early l.shift) (S.Shift.within l.shift) (S.Shift.in_order l.shift) (S.Shift.fits l.shift) (D.Display.keeps l.below) };
 
     fn show(&mut self, accession: u32, moment: u64, body: &[u8]) -> Result<(), Fault> {
-        let Some(later) = self.told(moment) else {
-            return Err(SHOW_REFUSED);
-        };
+        let later = self.told(moment).ok_or(SHOW_REFUSED)?;
         self.below.show(accession, later, body)
     }
 

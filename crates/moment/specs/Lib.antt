@@ -1,3 +1,4 @@
 pub mod Field
+pub mod Forms
 pub mod Days
 pub mod Shown

@@ -4,6 +4,7 @@
 ghost use Rattle.std.specs.Prelude.{◌≡◌, ℕ, ◌+◌, ◌*◌, ◌^◌, ◌<◌, ◌≤◌, MatchOption};
 ghost use Rattle.moment.specs.Days.{join_of, split_of, Joined};
 ghost use Rattle.moment.specs.Field.{time_of, time_with, moment_at};
+ghost use Rattle.moment.specs.Forms.{form_bit};
 
 pub mod figures;
 #[cfg(test)]
@@ -17,11 +18,19 @@ use times::Time;
 
 const DAY: u64 = 86_400_000;
 
-const BAD_TIME: Fault = Fault {
+// The refusal of a field that names no moment.
+pub const BAD_TIME: Fault = Fault {
     cause: Cause::ParameterMalformed,
     layer: Layer::TimeField,
     place: 0,
 };
+
+// The forms of a time field. The discriminant is the bit by which a field says its own.
+#[derive(Clone, Copy, PartialEq, Eq)]
+enum Form {
+    Short = 0,
+    Long = 1,
+}
 
 // The moment of a day and a time of day, if that is a time of day and not moment 0.
 fn moment_at(day: u64, hours: u64, minutes: u64, seconds: u64, millis: u64) -> Result<Time, Fault>
@@ -40,13 +49,13 @@ fn moment_at(day: u64, hours: u64, minutes: u64, seconds: u64, millis: u64) -> R
 
 // A time field by its first 32 bits, which both forms share, and the form that it must have; seconds and milliseconds
 // stand behind those bits in the long form alone.
-fn field(head: u64, form: u64, seconds: u64, millis: u64) -> Result<Time, Fault>
-    ensures { result ≡ time_with head form seconds millis }
+fn field(head: u64, form: Form, seconds: u64, millis: u64) -> Result<Time, Fault>
+    ensures { result ≡ time_with head (form_bit form) seconds millis }
 {
     if head / 0x8000_0000 % 2 == 0 {
         return Ok(Time::Now);
     }
-    if head / 0x800 % 2 != form {
+    if head / 0x800 % 2 != form as u64 {
         return Err(BAD_TIME);
     }
     moment_at(
@@ -63,12 +72,15 @@ fn field(head: u64, form: u64, seconds: u64, millis: u64) -> Result<Time, Fault>
 pub fn read_time(bytes: &[u8]) -> Result<Time, Fault>
     ensures { result ≡ time_of bytes.now }
 {
-    let Some(word) = number(bytes) else {
-        return Err(BAD_TIME);
-    };
+    let word = number(bytes).ok_or(BAD_TIME)?;
     match bytes.len() {
-        4 => field(word, 0, 0, 0),
-        6 => field(word / 0x1_0000, 1, word / 0x400 % 0x40, word % 0x400),
+        4 => field(word, Form::Short, 0, 0),
+        6 => field(
+            word / 0x1_0000,
+            Form::Long,
+            word / 0x400 % 0x40,
+            word % 0x400,
+        ),
         _ => Err(BAD_TIME),
     }
 }

@@ -4,7 +4,8 @@ ghost use Rattle.moment.specs.Shown.{time_text};
 
 use std::fmt;
 
-// A moment counts milliseconds from midnight UTC of day 0 of the Modified Julian Date.
+// A moment counts milliseconds from midnight UTC of day 0 of the Modified Julian Date. No Option<u64>: both are times, and
+// Option<Time> beside it says that none was given.
 #[derive(Clone, Copy, PartialEq, Eq, Debug)]
 pub enum Time {
     // at once: the clock's own moment, whatever it is
