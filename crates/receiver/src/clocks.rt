@@ -26,7 +26,8 @@ impl Parts {
     }
 
     // Shows the slide of a trigger from the trigger's own moment on, if it takes effect by a moment: its own has come, and
-    // its slide had not expired by then. Answers whether.
+    // its slide had not expired by then. Answers whether. That the entry's load is a slot is a fact of the whole list of
+    // waiting triggers; an entry alone is a shelf's, whose load is any number.
     fn show_if_due<D: Display>(
         &self,
         display: &mut D,

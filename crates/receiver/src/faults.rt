@@ -9,13 +9,6 @@ pub(crate) const MEMORY_MISFIT: Fault = Fault {
     place: 0,
 };
 
-// A time field says Now where a moment is wanted.
-pub(crate) const NO_MOMENT: Fault = Fault {
-    cause: Cause::ParameterMalformed,
-    layer: Layer::TimeField,
-    place: 0,
-};
-
 // A reading is below the clock.
 pub(crate) const BELOW_CLOCK: Fault = Fault {
     cause: Cause::ReadingBelowClock,

@@ -6,11 +6,11 @@ ghost use Rattle.refusal.specs.declared.causes.Cause.TheVariants.{BodyMemoryMisf
 ghost use Rattle.rules.specs.Clocks.{read_to, reading_step};
 ghost use Rattle.rules.specs.Headers.{receiver_fault};
 
-use crate::faults::{BELOW_CLOCK, MEMORY_MISFIT, NO_MOMENT};
+use crate::faults::{BELOW_CLOCK, MEMORY_MISFIT};
 use crate::parts::Parts;
 use display::Display;
-use moment::read_time;
 use moment::times::Time;
+use moment::{BAD_TIME, read_time};
 use refusal::Fault;
 
 impl Parts {
@@ -30,7 +30,8 @@ impl Parts {
     {
         self.admit(memory)?;
         match read_time(field)? {
-            Time::Now => Err(NO_MOMENT),
+            // Now names no moment either
+            Time::Now => Err(BAD_TIME),
             Time::At(moment) => Ok(moment),
         }
     }
