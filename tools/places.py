@@ -72,7 +72,8 @@ show("copies of ranges or orders by match", lines(r"Ordering::(Less|Equal|Greate
 show("numbers of an enum by match", lines(r"^\s*\w+::\w+ => \d+,$"))
 show("a match that only hands on", lines(r"^\s*Ok\((\w+)\) => (Ok\(\1\)|\1),$"))
 show("digits by hand", lines(r"b'0' \+|- b'0'|b'a'\.\.=b'f'"))
-show("wrappers for printing", lines(r"^struct \w+(<'a>)?\(.*\);$"))
+show("wrappers for printing", [(f, n, what) for f, n, what in lines(r"^(pub(\(crate\))? )?struct \w+(<.*>)?\(.*\);$")
+                               if re.search(r"fmt::Display for " + re.search(r"struct (\w+)", what).group(1) + r"\b", text[f])])
 
 print("== 5: facts and parameters that travel together")
 clauses = collections.defaultdict(list)
