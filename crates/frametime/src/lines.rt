@@ -19,7 +19,7 @@ pub struct Frames {
     pub edge_over_lag: Option<u64>,
 }
 
-// When what a line tells is shown.
+// When what a line tells is shown. No Option<Frames>: both are answers, and both print.
 #[derive(Clone, Copy)]
 pub enum Shown {
     AtOnce,

@@ -44,28 +44,45 @@ pub record FoundRecord : Type 0 where
 abbrev pub moved_to : ℕ → Fault → Fault
 moved_to i e = record { cause = e.cause; layer = e.layer; place = i }
 
+-- an answer whose refusal gets the parameter's place
+abbrev pub placed : {T : Type 0} → ℕ → Result T Fault → Result T Fault
+placed i r = results.result_map_both (λ x. x) (moved_to i) r
+
 -- a time field's refusal gets the parameter's place
 abbrev pub time_at : ℕ → List ℕ → Result Time Fault
-time_at i xs = results.result_map_both (λ t. t) (moved_to i) (time_of xs)
+time_at i xs = placed i (time_of xs)
+
+-- data that give no value are refused at the parameter's place
+abbrev pub given_at : {T : Type 0} → ℕ → Option T → Result T Fault
+given_at i o = options.ok_or o (refusal_at ParameterMalformed i)
 
 -- a version number is one byte
+abbrev pub version_of : List ℕ → Option ℕ
+version_of [] = None
+version_of (v ∷ []) = Some v
+version_of (v ∷ w ∷ xs) = None
+
 abbrev pub version_at : ℕ → List ℕ → Result ℕ Fault
-version_at i [] = Err (refusal_at ParameterMalformed i)
-version_at i (v ∷ []) = Ok v
-version_at i (v ∷ w ∷ xs) = Err (refusal_at ParameterMalformed i)
+version_at i xs = given_at i (version_of xs)
 
 -- a category and the slide in it are two bytes
+abbrev pub category_of : List ℕ → Option Category
+category_of [] = None
+category_of (c ∷ []) = None
+category_of (c ∷ s ∷ []) = Some (record { category = c; slide = s })
+category_of (c ∷ s ∷ x ∷ xs) = None
+
 abbrev pub category_at : ℕ → List ℕ → Result Category Fault
-category_at i [] = Err (refusal_at ParameterMalformed i)
-category_at i (c ∷ []) = Err (refusal_at ParameterMalformed i)
-category_at i (c ∷ s ∷ []) = Ok (record { category = c; slide = s })
-category_at i (c ∷ s ∷ x ∷ xs) = Err (refusal_at ParameterMalformed i)
+category_at i xs = given_at i (category_of xs)
 
 -- a name is a byte with the character set in its upper four bits, then 1 to 64 bytes
+abbrev pub name_in : List ℕ → Option NameRecord
+name_in [] = None
+name_in (head ∷ xs) =
+    cond (nat_lt 0 (length xs) && nat_le (length xs) 64) (Some (record { charset = field 8 0 4 head; bytes = xs })) None
+
 abbrev pub name_at : ℕ → List ℕ → Result NameRecord Fault
-name_at i [] = Err (refusal_at ParameterMalformed i)
-name_at i (head ∷ xs) =
-    cond (nat_lt 0 (length xs) && nat_le (length xs) 64) (Ok (record { charset = field 8 0 4 head; bytes = xs })) (Err (refusal_at ParameterMalformed i))
+name_at i xs = given_at i (name_in xs)
 
 -- a value that may be given once
 abbrev pub once : {T : Type 0} → ℕ → Option T → Result T Fault → Result (Option T) Fault
@@ -98,8 +115,8 @@ taken k i p f = taken_as (meaning_of k p.id) i p.holds f
 abbrev pub name_of_label : Label → NameRecord
 name_of_label l = record { charset = l.charset; bytes = l.bytes.now }
 
-abbrev pub seen_name : Result Label Fault → Result NameRecord Fault
-seen_name r = results.result_map_both name_of_label (λ e. e) r
+abbrev pub seen_name : Option Label → Option NameRecord
+seen_name o = options.option_map name_of_label o
 
 abbrev pub found_of : Found → FoundRecord
 found_of f =

@@ -1,14 +1,20 @@
 // The known parameters: what each stands for, what its data say, and what was found so far.
 ghost use Rattle.std.specs.Prelude.{◌≡◌};
 ghost use Rattle.header.specs.Params.{part_of};
-ghost use Rattle.header.specs.Finds.{refusal_at, meaning_of, time_at, version_at, category_at, name_at, seen_name, once, left_with, taken, found_of};
+ghost use Rattle.header.specs.Finds.{refusal_at, meaning_of, placed, version_of, category_of, name_in, seen_name, once, left_with, taken, found_of};
 
 use crate::kinds::{Category, Kind, Label};
 use crate::parts::{Found, Meaning, Parameter};
 use moment::read_time;
-use moment::times::Time;
 use refusal::Fault;
 use refusal::causes::{Cause, Layer};
+
+// The refusal of data that give no value.
+const MALFORMED: Fault = Fault {
+    cause: Cause::ParameterMalformed,
+    layer: Layer::Header,
+    place: 0,
+};
 
 // The refusal of a header for this cause, at this place.
 pub fn refused(cause: Cause, place: u16) -> Fault
@@ -35,57 +41,50 @@ fn meaning(kind: Kind, id: u8) -> Meaning
     }
 }
 
-// A time field, refused at the parameter's place.
-fn time(bytes: &[u8], place: u16) -> Result<Time, Fault>
-    ensures { result ≡ time_at place bytes.now }
-{
-    read_time(bytes).map_err(|fault| Fault { place, ..fault })
-}
-
-// A version number: one byte. The place goes into the refusal alone, here and below: so it stays beside the bytes.
-fn version(bytes: &[u8], place: u16) -> Result<u8, Fault>
-    ensures { result ≡ version_at place bytes.now }
+// A version number: one byte.
+fn version(bytes: &[u8]) -> Option<u8>
+    ensures { result ≡ version_of bytes.now }
 {
     match bytes {
-        [version] => Ok(*version),
-        _ => Err(refused(Cause::ParameterMalformed, place)),
+        [version] => Some(*version),
+        _ => None,
     }
 }
 
 // A category: two bytes.
-fn category(bytes: &[u8], place: u16) -> Result<Category, Fault>
-    ensures { result ≡ category_at place bytes.now }
+fn category(bytes: &[u8]) -> Option<Category>
+    ensures { result ≡ category_of bytes.now }
 {
     match bytes {
-        [category, slide] => Ok(Category {
+        [category, slide] => Some(Category {
             category: *category,
             slide: *slide,
         }),
-        _ => Err(refused(Cause::ParameterMalformed, place)),
+        _ => None,
     }
 }
 
 // A name: a byte with the character set in its upper half, then 1 to 64 bytes.
-fn label<'a>(bytes: &'a [u8], place: u16) -> Result<Label<'a>, Fault>
-    ensures { seen_name result ≡ name_at place bytes.now }
+fn label<'a>(bytes: &'a [u8]) -> Option<Label<'a>>
+    ensures { seen_name result ≡ name_in bytes.now }
 {
     match bytes {
-        [head, name @ ..] if 0 < name.len() && name.len() <= 64 => Ok(Label {
+        [head, name @ ..] if 0 < name.len() && name.len() <= 64 => Some(Label {
             charset: *head / 16,
             bytes: name,
         }),
-        _ => Err(refused(Cause::ParameterMalformed, place)),
+        _ => None,
     }
 }
 
-// Keeps a value that may be given once.
+// Keeps a value that may be given once; a refusal gets the parameter's place.
 fn keep<T: Drop>(was: &mut Option<T>, value: Result<T, Fault>, place: u16) -> Result<(), Fault>
-    ensures { left_with result was.new ≡ once place was.old value }
+    ensures { left_with result was.new ≡ once place was.old (placed place value) }
 {
     if was.is_some() {
         return Err(refused(Cause::ParameterAgain, place));
     }
-    *was = Some(value?);
+    *was = Some(value.map_err(|fault| Fault { place, ..fault })?);
     Ok(())
 }
 
@@ -96,11 +95,19 @@ impl<'a> Found<'a> {
     {
         let bytes = parameter.bytes;
         match meaning(kind, parameter.id) {
-            Meaning::ExpireTime => keep(&mut self.expire, time(bytes, place), place),
-            Meaning::TriggerTime => keep(&mut self.trigger, time(bytes, place), place),
-            Meaning::VersionNumber => keep(&mut self.version, version(bytes, place), place),
-            Meaning::ContentName => keep(&mut self.name, label(bytes, place), place),
-            Meaning::CategorySlide => keep(&mut self.category, category(bytes, place), place),
+            Meaning::ExpireTime => keep(&mut self.expire, read_time(bytes), place),
+            Meaning::TriggerTime => keep(&mut self.trigger, read_time(bytes), place),
+            Meaning::VersionNumber => keep(
+                &mut self.version,
+                version(bytes).ok_or(MALFORMED),
+                place,
+            ),
+            Meaning::ContentName => keep(&mut self.name, label(bytes).ok_or(MALFORMED), place),
+            Meaning::CategorySlide => keep(
+                &mut self.category,
+                category(bytes).ok_or(MALFORMED),
+                place,
+            ),
             Meaning::Skipped => Ok(()),
         }
     }

@@ -68,17 +68,11 @@ fn complete<'a>(core: Core, kind: Kind, found: Found<'a>) -> Result<Header<'a>, 
     }
 }
 
-// What a core and the bytes behind it say, in a header of that size.
-fn read_with<'a>(
-    core: Core,
-    size: usize,
-    extension: &'a [u8],
-    slot_size: u32,
-) -> Result<Header<'a>, Fault>
-    requires { 7 + length extension.now ≡ size }
-    ensures { seen result ≡ read_with core size extension.now slot_size }
+// What a core and the bytes behind it say.
+fn read_with<'a>(core: Core, extension: &'a [u8], slot_size: u32) -> Result<Header<'a>, Fault>
+    ensures { seen result ≡ read_with core (7 + length extension.now) extension.now slot_size }
 {
-    if usize::from(core.header_size) != size {
+    if usize::from(core.header_size) != usize::from(CORE_SIZE) + extension.len() {
         return Err(refused(Cause::HeaderSizeDiffers, 0));
     }
     let kind = core.kind().ok_or(refused(Cause::NeitherImageNorUpdate, 0))?;
@@ -98,5 +92,5 @@ pub fn read_header<'a>(bytes: &'a [u8], slot_size: u32) -> Result<Header<'a>, Fa
         return Err(refused(Cause::HeaderCut, 0));
     };
     let core = unpack(*b0, *b1, *b2, *b3, *b4, *b5, *b6);
-    read_with(core, bytes.len(), extension, slot_size)
+    read_with(core, extension, slot_size)
 }

@@ -1,4 +1,4 @@
-use Rattle.std.proofs.Common.{◌≡◌, ℕ, ◌-◌, ◌<◌, ◌≤◌, leb, List, [], ◌∷◌, length, get_or, take, drop, IfOk, Ok, Err, Result, sym, refl, ap, ◌∙◌, subst, arith, rules}
+use Rattle.std.proofs.Common.{◌≡◌, ℕ, ◌+◌, ◌-◌, ◌<◌, ◌≤◌, leb, List, [], ◌∷◌, length, get_or, take, drop, IfOk, Ok, Err, Result, sym, refl, ap, ◌∙◌, subst, arith, rules, length-drop}
 use Rattle.packed.specs.Bits.{whole}
 use Rattle.refusal.specs.declared.Fault.{Fault}
 use Rattle.refusal.specs.declared.causes.Cause.TheVariants.{HeaderCut}
@@ -28,10 +28,12 @@ seven (a ∷ b ∷ c ∷ d ∷ e ∷ f ∷ []) h = absurd (omega arith)
 seven (a ∷ b ∷ c ∷ d ∷ e ∷ f ∷ g ∷ xs) h = refl
 
 -- the core and the rest, as the slice pattern takes them
-split : (xs : List ℕ) (slot : ℕ) (r : Result HeaderRecord Fault) (core : Core) → 7 ≤ length xs → core ≡ core_in (whole (get_or xs 0 0 ∷ get_or xs 1 0 ∷ get_or xs 2 0 ∷ get_or xs 3 0 ∷ get_or xs 4 0 ∷ get_or xs 5 0 ∷ get_or xs 6 0 ∷ [])) → r ≡ read_with core (length xs) (take (length xs - 7) (drop 7 xs)) slot → r ≡ header_of xs slot
+split : (xs : List ℕ) (slot : ℕ) (r : Result HeaderRecord Fault) (core : Core) → 7 ≤ length xs → core ≡ core_in (whole (get_or xs 0 0 ∷ get_or xs 1 0 ∷ get_or xs 2 0 ∷ get_or xs 3 0 ∷ get_or xs 4 0 ∷ get_or xs 5 0 ∷ get_or xs 6 0 ∷ [])) → r ≡ read_with core (7 + length (take (length xs - 7) (drop 7 xs))) (take (length xs - 7) (drop 7 xs)) slot → r ≡ header_of xs slot
 unfolding header_of
 split xs slot r core h e is =
+    let size : 7 + length (take (length xs - 7) (drop 7 xs)) ≡ length xs = omega (arith, ap length (take_rest xs 7), length-drop 7 xs) in
     is
+    ∙ ap (λ (n : ℕ). read_with core n (take (length xs - 7) (drop 7 xs)) slot) size
     ∙ ap (λ (c : Core). read_with c (length xs) (take (length xs - 7) (drop 7 xs)) slot) (e ∙ ap (λ (ys : List ℕ). core_in (whole ys)) (seven xs h))
     ∙ ap (λ (ys : List ℕ). read_with (core_in (whole (take 7 xs))) (length xs) ys slot) (take_rest xs 7)
     ∙ sym (then_go _ _ tt _ (met _ HeaderCut (le-leb 7 (length xs) h)) refl)
