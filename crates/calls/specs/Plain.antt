@@ -12,7 +12,7 @@ use Rattle.rules.specs.declared.answers.Answer.{Answer}
 
 abbrev pub call_of : Call → rules.Call
 call_of (Header t xs) = rules.header t xs.now
-call_of (Segment t n last xs) = rules.segment t n last xs.now
+call_of (Segment t s) = rules.segment t s.number s.last s.bytes.now
 call_of (Time xs) = rules.time xs.now
 call_of (FindName n) = rules.find_name (name_of_label n)
 call_of (NextPlace p) = rules.next_place p

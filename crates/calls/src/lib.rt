@@ -9,38 +9,23 @@ use header::kinds::Label;
 use refusal::Fault;
 use rules::answers::Answer;
 use shelf::entries::Entry;
+use slots::bodies::Sent;
 
 // A call; the bytes that it hands over are lent.
 #[derive(Clone, Copy)]
 pub enum Call<'a> {
     // a header that came under a TransportId
-    Header {
-        transport: u16,
-        bytes: &'a [u8],
-    },
+    Header { transport: u16, bytes: &'a [u8] },
     // a segment of the object that arrives under a TransportId
-    Segment {
-        transport: u16,
-        number: u16,
-        last: bool,
-        bytes: &'a [u8],
-    },
+    Segment { transport: u16, sent: Sent<'a> },
     // a time field: it sets the clock until one is accepted, and is a reading after that
-    Time {
-        bytes: &'a [u8],
-    },
+    Time { bytes: &'a [u8] },
     // the number of the held slide of a name
-    FindName {
-        name: Label<'a>,
-    },
+    FindName { name: Label<'a> },
     // the first category place above a given one
-    NextPlace {
-        place: (u8, u8),
-    },
+    NextPlace { place: (u8, u8) },
     // the body of a held slide
-    Body {
-        accession: u32,
-    },
+    Body { accession: u32 },
     // the card that the display shows
     Card,
 }

@@ -6,6 +6,7 @@ use shelf::entries::Entry;
 use std::alloc::AllocError;
 
 // Room for twelve entries, of which the first `used` are on the shelf. An array and a count: a receiver has no heap.
+#[derive(Copy)]
 pub struct Rack<K> {
     pub(crate) entries: [Entry<K>; 12],
     pub(crate) used: usize,
@@ -19,7 +20,7 @@ pub type Waiting = Rack<u64>;
 // The category places: category and slide with an accession number.
 pub type Places = Rack<(u8, u8)>;
 
-// By hand: beside ghost fields of a generic struct neither is derived.
+// By hand: `Clone` cannot be derived for a struct with a ghost field.
 impl<K: Copy> Clone for Rack<K> {
     ghost is_clone = { λ x y. y ≡ x };
 
@@ -29,5 +30,3 @@ impl<K: Copy> Clone for Rack<K> {
         Ok(*self)
     }
 }
-
-impl<K: Copy> Copy for Rack<K> {}

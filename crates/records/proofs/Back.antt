@@ -1,9 +1,10 @@
 -- What was written is read back, record by record.
-use Rattle.std.proofs.Common.{◌≡◌, ℕ, zero, suc, ◌+◌, ◌*◌, ◌≤◌, leb, List, [], ◌∷◌, ◌++◌, map, length, take, drop, Result, refl, ap, ◌∙◌, arith, length-append}
+use Rattle.std.proofs.Common.{◌≡◌, ℕ, zero, suc, ◌+◌, ◌*◌, ◌≤◌, leb, List, [], ◌∷◌, ◌++◌, map, length, Result, refl, ap, ◌∙◌, arith, length-append}
 use Rattle.packed.specs.Bits.{field, whole, bytes_of}
 use Rattle.refusal.specs.declared.Fault.{Fault}
 use Rattle.rules.specs.Calls.{Call}
-use Rattle.std.proofs.lemmas.List.{take_all, take-append-le, drop-append-le, drop_all}
+use Rattle.std.proofs.Math.Seq.{take-append_seam, drop-append_seam}
+use Rattle.std.proofs.lemmas.List.{take_all}
 use Rattle.std.proofs.lemmas.Bool.{cond-true, le-leb}
 use Rattle.std.specs.List.{AllByRecursion}
 use Rattle.records.specs.Records.{said_by, record_with, first_record, records_from, records_of}
@@ -12,12 +13,6 @@ use Rattle.records.specs.Written.{Sheet, Fits, written, all_written, GivesBack}
 -- the two bytes of a head
 abbrev head : Sheet → ℕ
 head s = s.kind * 8192 + length s.payload
-
-front : (xs ys : List ℕ) → take (length xs) (xs ++ ys) ≡ xs
-front xs ys = take-append-le (length xs) xs ys (omega arith) ∙ take_all (length xs) xs (omega arith)
-
-rest : (xs ys : List ℕ) → drop (length xs) (xs ++ ys) ≡ ys
-rest xs ys = drop-append-le (length xs) xs ys (omega arith) ∙ ap (λ (zs : List ℕ). zs ++ ys) (drop_all (length xs) xs (omega arith))
 
 module _ (s : Sheet) (fits : Fits s) where
   word : whole (bytes_of 2 (head s)) ≡ head s
@@ -34,7 +29,7 @@ module _ (s : Sheet) (fits : Fits s) where
   first ys =
       (λ i. record_with (kind_is i) (size_is i) (s.payload ++ ys))
       ∙ cond-true (leb (length s.payload) (length (s.payload ++ ys))) _ _ (le-leb _ _ (simp length-append (omega arith)))
-      ∙ (λ i. (said_by s.kind (front s.payload ys i), rest s.payload ys i))
+      ∙ (λ i. (said_by s.kind (take-append_seam s.payload ys i), drop-append_seam s.payload ys i))
 
 back : (n : ℕ) (ss : List Sheet) → AllByRecursion Fits ss → length (all_written ss) ≤ n → records_from n (all_written ss) ≡ map (λ s. said_by s.kind s.payload) ss
 back zero [] f h = refl

@@ -5,6 +5,7 @@ use Rattle.rules.specs.Calls.{Call, header, segment, time, card, counted, shows}
 use Rattle.records.specs.Lines.{lines_from}
 use Rattle.records.specs.Records.{malformed, records_of}
 use Rattle.records.specs.Sent.{calls_from}
+use Rattle.records.specs.Texts.{line_text}
 
 abbrev Reads : List ℕ → List (Result Call Fault) → Type 0
 Reads xs rs = records_of xs ≡ rs
@@ -25,3 +26,6 @@ pub record ExamplesStand : Type 0 where
   -- a malformed record asks for the card alone
   pub sent : calls_from (Ok (time []) ∷ Err malformed ∷ []) ≡ time [] ∷ card ∷ card ∷ []
   pub told : lines_from 1 (Ok (time []) ∷ Err malformed ∷ []) (counted 1 ∷ shows (Some (record { accession = 5; since = 9; length = 3 })) ∷ shows None ∷ []) ≡ record { number = 1; refusal = None; card = Some (record { accession = 5; since = 9; length = 3 }) } ∷ record { number = 2; refusal = Some malformed; card = None } ∷ []
+  -- as text: 4 0 1 5184000001016, and 2 19 0 0 behind a malformed record without a card
+  pub printed : line_text (record { number = 4; refusal = None; card = Some (record { accession = 1; since = 5184000001016; length = 3 }) }) ≡ 0x34 ∷ 0x20 ∷ 0x30 ∷ 0x20 ∷ 0x31 ∷ 0x20 ∷ 0x35 ∷ 0x31 ∷ 0x38 ∷ 0x34 ∷ 0x30 ∷ 0x30 ∷ 0x30 ∷ 0x30 ∷ 0x30 ∷ 0x31 ∷ 0x30 ∷ 0x31 ∷ 0x36 ∷ []
+  pub printed_refused : line_text (record { number = 2; refusal = Some malformed; card = None }) ≡ 0x32 ∷ 0x20 ∷ 0x31 ∷ 0x39 ∷ 0x20 ∷ 0x30 ∷ 0x20 ∷ 0x30 ∷ []

@@ -6,6 +6,7 @@ ghost use Rattle.records.specs.Records.{first_record, record_with, said_by, seen
 use calls::Call;
 use refusal::Fault;
 use refusal::causes::{Cause, Layer};
+use slots::bodies::Sent;
 
 // What a record says: a call, or that it is malformed.
 pub type Record<'a> = Result<Call<'a>, Fault>;
@@ -35,9 +36,11 @@ fn say<'a>(kind: u16, payload: &'a [u8]) -> Record<'a>
         }),
         (3, [a, b, c, d, bytes @ ..]) => Ok(Call::Segment {
             transport: pair(*a, *b),
-            number: pair(*c, *d) % 32768,
-            last: pair(*c, *d) >= 32768,
-            bytes,
+            sent: Sent {
+                number: pair(*c, *d) % 32768,
+                last: pair(*c, *d) >= 32768,
+                bytes,
+            },
         }),
         _ => Err(MALFORMED),
     }

@@ -1,12 +1,11 @@
 -- The clock moves only with time fields: it is 0 until a setting is accepted, and above 0 from then on.
-use Rattle.std.proofs.Common.{◌≡◌, ℕ, ◌-◌, ◌<◌, ◌≤◌, Bool, eqb, leb, List, Some, None, Ok, Err, Option, Result, sym, refl, ap, ◌∙◌, subst, arith}
+use Rattle.std.proofs.Common.{◌≡◌, ℕ, ◌-◌, ◌<◌, ◌≤◌, Bool, eqb, leb, List, Ok, Err, Result, sym, refl, ap, ◌∙◌, subst, arith}
 use Rattle.calls.specs.Plain.{call_of}
 use Rattle.calls.specs.declared.Call.{Call}
 use Rattle.calls.specs.declared.Call.TheVariants as calls
 use Rattle.header.proofs.Moments.{read_in_time}
 use Rattle.header.specs.Headers.{HeaderRecord, header_of}
 use Rattle.header.specs.Sound.{InTime}
-use Rattle.header.specs.declared.kinds.Category.{Category}
 use Rattle.header.specs.declared.kinds.Kind.{Kind}
 use Rattle.header.specs.declared.kinds.Kind.TheVariants.{Image, Update}
 use Rattle.moment.specs.Field.{time_of}
@@ -21,7 +20,7 @@ use Rattle.rules.proofs.Readings.{walk_clock}
 use Rattle.rules.specs.Assembly.{on_landing, segment_of, segment_step}
 use Rattle.rules.specs.Calls.{Reply, time, counted, refused}
 use Rattle.rules.specs.Clocks.{on_setting, on_reading, setting_step, reading_step}
-use Rattle.rules.specs.Headers.{recategorised, slot_for, by_kind, on_header, header_step}
+use Rattle.rules.specs.Headers.{slot_for, by_kind, on_header, header_step}
 use Rattle.rules.specs.Runs.{step}
 use Rattle.rules.specs.Triggers.{Verdict, nothing, effect, late, wait}
 use Rattle.rules.specs.Worlds.{World, slot_at, fits_memory, armed}
@@ -98,7 +97,7 @@ module _ (w : World) where
   pub other_clock : (c : Call) → NoTime c → (step w (call_of c)).1.state.clock ≡ w.state.clock
   unfolding step
   other_clock (calls.Header t xs) h = (header_clock t xs.now).same
-  other_clock (calls.Segment t n last xs) h = (segment_clock t n last xs.now).same
+  other_clock (calls.Segment t s) h = (segment_clock t s.number s.last s.bytes.now).same
   other_clock (calls.Time xs) h = absurd h
   other_clock (calls.FindName n) h = refl
   other_clock (calls.NextPlace p) h = refl
@@ -141,7 +140,7 @@ module _ (w : World) where
   -- once it runs it runs on
   pub running_on : (c : Call) → 0 < w.state.clock → 0 < (step w (call_of c)).1.state.clock
   running_on (calls.Header t xs) h = omega (arith, other_clock (calls.Header t xs) tt)
-  running_on (calls.Segment t n last xs) h = omega (arith, other_clock (calls.Segment t n last xs) tt)
+  running_on (calls.Segment t s) h = omega (arith, other_clock (calls.Segment t s) tt)
   running_on (calls.Time xs) h = reading_on xs.now h
   running_on (calls.FindName n) h = omega (arith, other_clock (calls.FindName n) tt)
   running_on (calls.NextPlace p) h = omega (arith, other_clock (calls.NextPlace p) tt)

@@ -28,7 +28,7 @@ Ran w cs was now end = (now ≡ was ++ replies w cs) × (end ≡ after w cs)
 -- the call is no time field
 abbrev pub NoTime : Call → Type 0
 NoTime (calls.Header t xs) = Unit {0}
-NoTime (calls.Segment t n last xs) = Unit {0}
+NoTime (calls.Segment t s) = Unit {0}
 NoTime (calls.Time xs) = ⊥
 NoTime (calls.FindName n) = Unit {0}
 NoTime (calls.NextPlace p) = Unit {0}

@@ -9,7 +9,6 @@ use calls::{Call, Reply};
 use display::Display;
 use receiver::phases::Running;
 use receiver::receivers::Receiver;
-use slots::bodies::Sent;
 use std::alloc::{AllocError, Global};
 
 // The reply to the question for a body. It owns a copy, and want of memory for that is an error and no reply.
@@ -43,18 +42,8 @@ pub(crate) fn ask<D: Display, P>(
         Call::Header { transport, bytes } => {
             Ok(Reply::Answered(receiver.header(memory, *transport, bytes)))
         }
-        Call::Segment {
-            transport,
-            number,
-            last,
-            bytes,
-        } => {
-            let sent = Sent {
-                number: *number,
-                last: *last,
-                bytes,
-            };
-            Ok(Reply::Answered(receiver.segment(memory, *transport, &sent)))
+        Call::Segment { transport, sent } => {
+            Ok(Reply::Answered(receiver.segment(memory, *transport, sent)))
         }
         Call::Time { .. } => unreachable(),
         Call::FindName { name } => Ok(Reply::Found(receiver.find_name(*name))),

@@ -1,5 +1,5 @@
 -- The ledger follows the receiver through every call.
-use Rattle.std.proofs.Common.{◌≡◌, ℕ, zero, suc, ◌+◌, ◌-◌, ◌*◌, ◌^◌, ◌<◌, ◌≤◌, Bool, true, false, cond, not, ◌||◌, eqb, ltb, leb, List, [], ◌∷◌, length, get_or, take, drop, set, replicate, Some, None, Ok, Err, filter, Option, Result, sym, refl, ap, ◌∙◌, subst, subst₂, inl, inr, arith}
+use Rattle.std.proofs.Common.{◌≡◌, ℕ, zero, suc, ◌+◌, ◌-◌, ◌*◌, ◌^◌, ◌<◌, ◌≤◌, Bool, true, false, cond, not, ◌||◌, eqb, ltb, leb, List, [], ◌∷◌, length, get_or, take, drop, set, Some, None, Ok, Err, filter, Option, Result, sym, refl, ap, ◌∙◌, subst, subst₂, inl, inr, arith}
 use mathlib.Core.Path.{subst₃, fun_ext}
 use lib.Bits.{bit_or}
 use Rattle.display.specs.Meaning.{Meaning, Keeps}
@@ -52,7 +52,7 @@ use Rattle.rules.proofs.Passes.{getD_vacate}
 use Rattle.slots.proofs.Pieces.{Piece, Pieces, Fits, fit, tight_inside, next_piece, added, completed}
 use Rattle.rules.proofs.Readings.{walk_clock}
 use Rattle.rules.proofs.Choices.{slot_for_some, idle_undone}
-use Rattle.rules.proofs.Kept.{sound_step, sound_recategorised, held_named}
+use Rattle.rules.proofs.Kept.{sound_step, sound_recategorised, held_named, all_free}
 use Rattle.rules.proofs.Sounds.{placed_state, at_set, sound_vacate, sound_filtered, sound_walk, sound_received, sound_filed, sound_categorised}
 
 -- parts of memory beside a write
@@ -518,11 +518,6 @@ module _ (m : Meaning) (keeps : Keeps m) where
   pub runs : (cs : List Call) (w : World) (l : Ledger) → Sound w.state → Follows m w l → Follows m (after w cs) (ledger l cs (replies w cs))
   runs [] w l sound h = h
   runs (c ∷ cs) w l sound h = runs cs (step w c).1 (entered l c (step w c).0) (sound_step w c sound) (nexts w l c sound h)
-
-  all_free : (n k : ℕ) → get_or (replicate n free) k free ≡ free
-  all_free zero k = refl
-  all_free (suc n) zero = refl
-  all_free (suc n) (suc k) = all_free n k
 
   pub opens : (size : ℕ) (memory : List ℕ) → Follows m (opened m size memory) blank
   opens size memory =

@@ -238,19 +238,6 @@ module _ (w : World) (h : Sound w.state) where
 pub sound_step : (w : World) (c : Call) → Sound w.state → Sound (step w c).1.state
 sound_step w c h = (goes w h c).sound
 
--- each call by itself
-pub sound_header : (w : World) (t : ℕ) (xs : List ℕ) → Sound w.state → Sound (header_step w t xs).1.state
-sound_header w t xs h = (headed w h t xs).sound
-
-pub sound_segment : (w : World) (t n : ℕ) (last : Bool) (xs : List ℕ) → Sound w.state → Sound (segment_step w t n last xs).1.state
-sound_segment w t n last xs h = (segmented w h t n last xs).sound
-
-pub sound_setting : (w : World) (xs : List ℕ) → Sound w.state → Sound (setting_step w xs).1.state
-sound_setting w xs h = (setting w h xs).sound
-
-pub sound_reading : (w : World) (xs : List ℕ) → Sound w.state → Sound (reading_step w xs).1.state
-sound_reading w xs h = (reading w h xs).sound
-
 pub sound_run : (cs : List Call) (w : World) → Sound w.state → Sound (after w cs).state
 sound_run [] w h = h
 sound_run (c ∷ cs) w h = sound_run cs (step w c).1 (sound_step w c h)
@@ -261,7 +248,7 @@ count_run (c ∷ cs) w h =
     let g = goes w h c in
     g.rises (given_in cs (replies (step w c).1 cs)) (count_run cs (step w c).1 g.sound)
 
-all_free : (n k : ℕ) → get_or (replicate n free) k free ≡ free
+pub all_free : (n k : ℕ) → get_or (replicate n free) k free ≡ free
 all_free zero k = refl
 all_free (suc n) zero = refl
 all_free (suc n) (suc k) = all_free n k

@@ -27,10 +27,6 @@ pub both_all : {X Y Z : Type 0} {R : X → Y → Type 0} {xs : List X} {ys : Lis
 both_all f P i none = tt
 both_all f P i (more {x = x} {y = y} r h) = (i x y r, both_all f P i h)
 
-pub both_tied : {X Y : Type 0} {R R' : X → Y → Type 0} {xs : List X} {ys : List Y} → ((x : X) (y : Y) → R x y → R' x y) → Both R xs ys → Both R' xs ys
-both_tied tie none = none
-both_tied tie (more {x = x} {y = y} r h) = more (tie x y r) (both_tied tie h)
-
 -- entries of the same moment go to the same place
 set_in : (R : Entry ℕ → Entry ℕ → Type 0) (x y x' y' : Entry ℕ) {xs ys : List (Entry ℕ)} (b : Bool) → R x y → R x' y' → Both R xs ys → Both R (shelved by_moment x xs) (shelved by_moment y ys) → Both R (cond b (x ∷ x' ∷ xs) (x' ∷ shelved by_moment x xs)) (cond b (y ∷ y' ∷ ys) (y' ∷ shelved by_moment y ys))
 set_in R x y x' y' true r r' h i = more r (more r' h)

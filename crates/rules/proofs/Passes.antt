@@ -16,6 +16,7 @@ use Rattle.std.proofs.lemmas.List.{length-append, map-append}
 use Rattle.std.proofs.lemmas.Bool.{cases_eq, cases_lt, cases_order, both_ways, cases_Bool, eqb-true, ne_eqb, eq-eqb, leb-false, le-leb, lt-leb, and_parts, not-true}
 use Rattle.std.specs.List.{AllByRecursion}
 use Rattle.rules.proofs.Moments.{all_mono}
+use Rattle.shelf.proofs.Firsts.{kept_none}
 
 -- what is left to wait for at t
 abbrev left : State → ℕ → Entry ℕ → Bool
@@ -40,10 +41,6 @@ kept_ext P p q i (x ∷ xs) h = ap₂ (λ b ys. cond b (x ∷ ys) ys) (i x h.0) 
 pub kept_all : {X : Type 0} (p : X → Bool) (xs : List X) → AllByRecursion (λ x. p x ≡ true) xs → filter p xs ≡ xs
 kept_all p [] h = refl
 kept_all p (x ∷ xs) h = rw h.0 (ap (λ ys. x ∷ ys) (kept_all p xs h.1))
-
-pub kept_none : {X : Type 0} (p : X → Bool) (xs : List X) → AllByRecursion (λ x. p x ≡ false) xs → filter p xs ≡ []
-kept_none p [] h = refl
-kept_none p (x ∷ xs) h = rw h.0 (kept_none p xs h.1)
 
 map_ext : {X Y : Type 0} (P : X → Type 0) (f g : X → Y) → ((x : X) → P x → f x ≡ g x) → (xs : List X) → AllByRecursion P xs → map f xs ≡ map g xs
 map_ext P f g i [] h = refl

@@ -45,10 +45,7 @@ pigeons (suc n) xs d h =
     let below : AllByRecursion (λ x. x < n) (filter p xs) = all_kept p (λ x. x < suc n) (λ x. x < n) (λ x i t. let q : x ≡ n → ⊥ = eqb-false x n (not-true (eqb x n) t) in omega arith) xs h in
     omega (arith, pigeons n (filter p xs) (distinct_kept p xs d) below, one_less n xs d)
 
--- the loads of a shelf on which no two entries carry one load
-loads : {K : Type 0} → List (Entry K) → List ℕ
-loads ws = map (λ e. e.load) ws
-
+-- shelves on which no two entries carry one load
 module _ {K : Type 0} where
   apart_distinct : (f : ℕ → ℕ) (ws : List (Entry K)) → ((d e : Entry K) → carries d.load e ≡ false → f d.load ≡ f e.load → ⊥) → Apart ws → Distinct (map (λ (e : Entry K). f e.load) ws)
   apart_distinct f [] i h = tt

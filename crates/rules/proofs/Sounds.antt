@@ -1,12 +1,11 @@
 -- Everything that befalls a state keeps it sound.
-use Rattle.std.proofs.Common.{◌≡◌, ℕ, zero, suc, ◌-◌, ◌<◌, ◌≤◌, Bool, true, false, cond, not, ◌&&◌, ◌||◌, eqb, leb, ◌⊎◌, List, [], ◌∷◌, map, length, get_or, set, Some, None, filter, Option, sym, refl, ap, ◌∙◌, subst, subst₂, inl, inr, arith}
+use Rattle.std.proofs.Common.{◌≡◌, ℕ, zero, suc, ◌<◌, ◌≤◌, Bool, true, false, cond, not, ◌&&◌, ◌||◌, eqb, leb, ◌⊎◌, List, [], ◌∷◌, map, length, get_or, set, Some, None, filter, Option, sym, refl, ap, ◌∙◌, subst, subst₂, inl, inr, arith}
 use Rattle.header.proofs.Equal.{same_decides}
 use Rattle.header.specs.Names.{NameRecord, same_name}
 use Rattle.header.specs.declared.kinds.Category.{Category}
 use Rattle.rules.specs.Assembly.{put}
 use Rattle.rules.specs.Clocks.{prepared, expired, tick, walk}
 use Rattle.rules.specs.Headers.{is_held, begun}
-use Rattle.rules.specs.Passes.{passed_to}
 use Rattle.rules.specs.Soundness.{Sound, SlotSound, same_place, PlacesApart}
 use Rattle.rules.specs.Triggers.{Verdict, nothing, effect, late, wait}
 use Rattle.rules.specs.Worlds.{State, World, slot_at, any, holding, vacate, fire, armed, categorised}
@@ -27,7 +26,7 @@ use Rattle.std.specs.Cmp.{nat_cmp_total, then_total, on_total}
 use Rattle.std.specs.List.{AllByRecursion}
 use Rattle.rules.proofs.Filters.{all_kept, kept_pass, apart_kept, none_carries, places_apart_kept, places_apart_shelved, same_place_turned, any_freed, any_set, any_at}
 use Rattle.rules.proofs.Moments.{all_mono}
-use Rattle.rules.proofs.Passes.{getD_vacate, Ready, reading}
+use Rattle.rules.proofs.Passes.{getD_vacate, Ready}
 use Rattle.rules.specs.Laws.{NeverFalls}
 
 -- a slot that was held after a vacation was held before
@@ -400,7 +399,3 @@ sound_ready s h = record {
   ahead = h.waiting_ahead;
   alive = every_slot (λ x. ends s.clock x ≡ false) s.slots (λ k. still_alive s.clock s.given s.room (slot_at s k) (h.slot_sound k));
 }
-
-pub sound_passed : (t : ℕ) (w : World) → w.state.clock ≤ t → Sound w.state → Sound (passed_to t w).state
-sound_passed t w le h =
-    subst (λ (v : World). Sound v.state) (reading t w (sound_ready w.state h) le).0 (sound_walk (t - w.state.clock) w h)

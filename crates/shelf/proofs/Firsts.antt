@@ -53,12 +53,8 @@ module _ {X : Type 0} (test : X → Bool) where
       (λ e. sym (cond-true (test x) xs (x ∷ without_that test xs) e))
       (λ e. ap (λ (l : List X). x ∷ l) (removed_first xs) ∙ sym (cond-false (test x) xs (x ∷ without_that test xs) e))
 
--- where all pass a test, or none does
+-- where none passes a test
 module _ {X : Type 0} (p : X → Bool) where
-  pub kept_all : (xs : List X) → AllByRecursion (λ x. p x ≡ true) xs → filter p xs ≡ xs
-  kept_all [] h = refl
-  kept_all (x ∷ xs) h = cond-true (p x) (x ∷ filter p xs) (filter p xs) h.0 ∙ ap (λ (l : List X). x ∷ l) (kept_all xs h.1)
-
   pub kept_none : (xs : List X) → AllByRecursion (λ x. p x ≡ false) xs → filter p xs ≡ []
   kept_none [] h = refl
   kept_none (x ∷ xs) h = cond-false (p x) (x ∷ filter p xs) (filter p xs) h.0 ∙ kept_none xs h.1

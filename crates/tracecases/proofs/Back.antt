@@ -1,23 +1,18 @@
 -- What was written is told, case by case.
-use Rattle.std.proofs.Common.{◌≡◌, ℕ, zero, suc, ◌≤◌, leb, List, [], ◌∷◌, ◌++◌, length, take, drop, Some, Option, refl, ap, ◌∙◌, arith, length-append}
+use Rattle.std.proofs.Common.{◌≡◌, ℕ, zero, suc, ◌≤◌, leb, List, [], ◌∷◌, ◌++◌, length, Some, Option, refl, ap, ◌∙◌, arith, length-append}
 use Rattle.packed.specs.Bits.{whole, bytes_of}
-use Rattle.std.proofs.lemmas.List.{append_assoc, take_all, take-append-le, drop-append-le, drop_all}
+use Rattle.std.proofs.Math.Seq.{take-append_seam, drop-append_seam}
+use Rattle.std.proofs.lemmas.List.{append_assoc}
 use Rattle.std.proofs.lemmas.Bool.{cond-true, le-leb}
 use Rattle.std.specs.List.{AllByRecursion}
 use Rattle.tracecases.specs.Cases.{Case, parted, with_trace, with_name, first_case}
 use Rattle.tracecases.specs.Told.{case_told, and_on, told_from, told}
 use Rattle.tracecases.specs.Written.{Fits, written, all_written, all_told, TellsEach}
 
-front : (xs ys : List ℕ) → take (length xs) (xs ++ ys) ≡ xs
-front xs ys = take-append-le (length xs) xs ys (omega arith) ∙ take_all (length xs) xs (omega arith)
-
-rest : (xs ys : List ℕ) → drop (length xs) (xs ++ ys) ≡ ys
-rest xs ys = drop-append-le (length xs) xs ys (omega arith) ∙ ap (λ (zs : List ℕ). zs ++ ys) (drop_all (length xs) xs (omega arith))
-
 part_is : (xs ys : List ℕ) → parted (length xs) (xs ++ ys) ≡ Some (xs, ys)
 part_is xs ys =
     cond-true (leb (length xs) (length (xs ++ ys))) _ _ (le-leb _ _ (simp length-append (omega arith)))
-    ∙ (λ i. Some (front xs ys i, rest xs ys i))
+    ∙ (λ i. Some (take-append_seam xs ys i, drop-append_seam xs ys i))
 
 -- the first case is the one that was written first
 first : (c : Case) → Fits c → (ys : List ℕ) → first_case (written c ++ ys) ≡ Some (c, ys)

@@ -16,7 +16,7 @@ use Rattle.replay.proofs.replays.run_unset.Goals as goal
 
 no_time : (c : Call) → ((b : Bor (List ℕ)) → c ≡ Time b → ⊥) → NoTime c
 no_time (Header t xs) h = tt
-no_time (Segment t n last xs) h = tt
+no_time (Segment t s) h = tt
 no_time (Time xs) h = h xs refl
 no_time (FindName n) h = tt
 no_time (NextPlace p) h = tt
