@@ -20,7 +20,7 @@ pub type Waiting = Rack<u64>;
 // The category places: category and slide with an accession number.
 pub type Places = Rack<(u8, u8)>;
 
-// By hand: `Clone` cannot be derived for a struct with a ghost field.
+// By hand: `Clone` is not derived for a struct that has a type parameter and a ghost field.
 impl<K: Copy> Clone for Rack<K> {
     ghost is_clone = { λ x y. y ≡ x };
 
