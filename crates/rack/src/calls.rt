@@ -1,5 +1,5 @@
 // A rack, for entries of any key: putting one in, keeping some, reading them.
-ghost use Rattle.std.specs.Prelude.{◌≡◌, ◌≤◌, [], length, if◌then◌else◌, filter, nat_lt};
+ghost use Rattle.std.specs.Prelude.{◌≡◌, ◌≤◌, [], length, if◌then◌else◌, filter, is_ok, nat_lt, IfErr};
 ghost use Rattle.rack.specs.Listed.{listed};
 ghost use Rattle.shelf.specs.Places.{shelved};
 
@@ -26,23 +26,17 @@ impl<K: Ord + Copy + Default> Rack<K> {
         ensures value { result.now ≡ listed self.now }
         ensures bound { length result.now ≤ 12 }
     {
-        let entries = &self.entries[..];
-        &entries[..self.used]
+        &self.entries[..self.used]
     }
 
-    // Puts an entry behind all that are not above it; false, and nothing changed, without room.
-    // A yes or no: who puts one in has it still.
-    pub fn put(&mut self, key: K, load: u32) -> bool
-        ensures room { result ≡ nat_lt (length (listed self.old)) 12 }
-        ensures list { listed self.new ≡ (if result then shelved K.Ord.cmp (record { key = key; load = load }) (listed self.old) else listed self.old) }
+    // Puts an entry behind all that are not above it. Without room it is handed back, and nothing is changed.
+    pub fn put(&mut self, key: K, load: u32) -> Result<(), Entry<K>>
+        ensures room { is_ok result ≡ nat_lt (length (listed self.old)) 12 }
+        ensures list { listed self.new ≡ (if is_ok result then shelved K.Ord.cmp (record { key = key; load = load }) (listed self.old) else listed self.old) }
+        ensures back { IfErr result (λ e. e ≡ record { key = key; load = load }) }
     {
-        match insert(&mut self.entries, self.used, Entry { key, load }) {
-            Ok(used) => {
-                self.used = used;
-                true
-            }
-            Err(_) => false,
-        }
+        self.used = insert(&mut self.entries, self.used, Entry { key, load })?;
+        Ok(())
     }
 
     // Keeps the entries that pass the test.

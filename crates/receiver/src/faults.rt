@@ -1,4 +1,5 @@
-// The refusals that a receiver answers with by itself; those of headers and time fields come from below.
+// The refusals that a receiver answers with by itself; those of headers and time fields come from below. A constant may not call
+// a function, so each is written out.
 use refusal::Fault;
 use refusal::causes::{Cause, Layer};
 

@@ -6,8 +6,9 @@ use rack::racks::{Places, Waiting};
 use slots::indices::SlotIndex;
 use slots::records::Slots;
 
-// The clock (0 until it is set), how many accession numbers were given, the slot given last, the slot size, the slots, the
-// waiting triggers and the category places. They are sound together: what the rules keep of a state is a fact of the type.
+// The clock, how many accession numbers were given, the slot given last, the slot size, the slots, the waiting triggers and the
+// category places. They are sound together: what the rules keep of a state is a fact of the type. The clock is 0 until it is set,
+// as the rules count it, and no moment is 0: an option would be taken apart at each comparison.
 #[derive(Drop)]
 pub(crate) struct Parts {
     pub(crate) clock: u64,

@@ -89,7 +89,9 @@ impl Slots {
         }
     }
 
-    // Moves slot k by its present state; past the end nothing changes.
+    // Moves slot k by its present state; past the end nothing changes. Any number is taken for k, here, in `take` and in
+    // `first_free`: a `SlotIndex` would ask more of callers. By `get_mut` it was tried: the check then finds nothing of what is
+    // left of the other slots.
     pub fn on(&mut self, k: usize, event: Event)
         ensures seen { all_seen self.new ≡ slice_set (all_seen self.old) k (moved (event_of event (slice_index_or (all_names self.old) k no_name)) (slice_index_or (all_seen self.old) k free)) }
         ensures names { all_names self.new ≡ all_names self.old }

@@ -1,4 +1,4 @@
-use Rattle.std.proofs.Common.{◌≡◌, ◌<◌, ◌≤◌, true, not, eqb, length, sym, ap, ◌∙◌}
+use Rattle.std.proofs.Common.{is_ok, ◌≡◌, ◌<◌, ◌≤◌, true, not, eqb, length, sym, ap, ◌∙◌}
 use Rattle.rack.specs.Listed.{triggers}
 use Rattle.receiver.proofs.Insides.{sound_of, kept_sound}
 use Rattle.receiver.proofs.Keeps.{sound_waits}
@@ -35,7 +35,7 @@ invariant_of-self-in-Wait g c =
     let lt : k < 12 = rw c.from-slot.ensures c.args.k.within in
     let few : length xs ≤ 11 = rw c.keep-in-Wait.ensures (waiting_room s (sound_of p) k lt) in
     let put = shelved by_moment (record { key = c.in-Wait.moment; load = k }) in
-    let there = put_there c.put.result xs (put xs) (triggers c.put.new.self) c.put.ensures.room c.put.ensures.list few in
+    let there = put_there (is_ok c.put.result) xs (put xs) (triggers c.put.new.self) c.put.ensures.room c.put.ensures.list few in
     let is : is_held (slot_at s k) ≡ true = ap (λ j. is_held (slot_at s j)) c.from-slot.ensures ∙ c.requires in
     record { sound = kept_sound _ (holding s.slots (put (undone k s)) s.places s) (ap (λ ws. holding s.slots ws s.places s) (there ∙ ap put c.keep-in-Wait.ensures)) (sound_waits s c.in-Wait.moment k c.args.trigger (sound_of p) is (sym (ap verdict_of c.in-Wait.is) ∙ c.at-verdict.ensures)) }
 
@@ -48,6 +48,6 @@ returns-in-Wait-clause-world g c =
     let lt : k < 12 = rw c.from-slot.ensures c.args.k.within in
     let few : length xs ≤ 11 = rw c.keep-in-Wait.ensures (waiting_room s (sound_of c.args.self.now) k lt) in
     let put = shelved by_moment (record { key = c.in-Wait.moment; load = k }) in
-    let there = put_there c.put.result xs (put xs) (triggers c.put.new.self) c.put.ensures.room c.put.ensures.list few in
+    let there = put_there (is_ok c.put.result) xs (put xs) (triggers c.put.new.self) c.put.ensures.room c.put.ensures.list few in
     ap (λ ws. with_state (holding s.slots ws s.places s) w) (there ∙ ap put c.keep-in-Wait.ensures)
     ∙ ap (λ j. armed (wait c.in-Wait.moment) j w) c.from-slot.ensures
