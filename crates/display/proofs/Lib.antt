@@ -1,2 +1,3 @@
+mod Heads
 mod Taped
 pub mod Shown

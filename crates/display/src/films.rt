@@ -1,8 +1,7 @@
 // The film: a display that appends each card to a tape and reads it back from the tape's own bytes.
-ghost use Rattle.std.specs.Prelude.{◌≡◌, ℕ, ◌+◌, ◌-◌, ◌^◌, ◌<◌, ◌≤◌, min, length, take, drop, None, vec_len};
+ghost use Rattle.std.specs.Prelude.{◌≡◌, ℕ, ◌+◌, ◌-◌, ◌^◌, ◌<◌, ◌≤◌, min, length, None, vec_len};
 ghost use Rattle.display.specs.Meaning.{blank, Shows};
 ghost use Rattle.display.specs.Tape.{film, end_of, head_at, place_for, entry_bytes, Recorded};
-ghost use Rattle.packed.specs.Bits.{whole};
 ghost use Rattle.packed.specs.Parts.{pasted};
 ghost use Rattle.display.specs.Lifted.{film_keeps};
 
@@ -10,7 +9,6 @@ use crate::cards::CardNumbers;
 use crate::copying::copy_in;
 use crate::plain::{admit, settled};
 use crate::{Display, LARGEST_FRAME};
-use packed::number;
 use refusal::Fault;
 
 // How many bytes an entry has before its body.
@@ -25,28 +23,18 @@ pub struct Film {
     ghost within: { end_of tape.items last ≤ vec_len tape },
 }
 
-// The number in `size` bytes of the tape. Bytes and a place in them stay two arguments, as of any slice. No from_be_bytes:
-// the bytes are a part of any place, and would have to be an array first.
-fn number_at(tape: &[u8], at: usize, size: usize) -> u64
-    requires within { at + size ≤ length tape.now }
-    requires small { size ≤ 8 }
-    ensures { result ≡ whole (take size (drop at tape.now)) }
-{
-    let end = at + size;
-    number(&tape[at..end]).unwrap()
-}
-
-// The numbers in an entry's head.
+// The numbers in an entry's head. Bytes and a place in them stay two arguments, as of any slice.
 fn numbers_at(tape: &[u8], at: usize) -> CardNumbers
     requires { at + 12 ≤ length tape.now }
     ensures { result ≡ head_at tape.now at }
 {
-    let first = number_at(tape, at, 4);
-    let second = number_at(tape, at + 4, 8);
+    let (first, rest) = tape[at..].split_first_chunk::<4>().unwrap();
+    let (second, _) = rest.split_first_chunk::<8>().unwrap();
+    let word = u64::from_be_bytes(*second);
     CardNumbers {
-        accession: (first % 0x1_0000_0000) as u32,
-        since: second / 0x10_0000 % 0x1000_0000_0000,
-        length: (second % 0x10_0000) as u32,
+        accession: u32::from_be_bytes(*first),
+        since: word / 0x10_0000,
+        length: (word % 0x10_0000) as u32,
     }
 }
 
@@ -143,10 +131,6 @@ impl Display for Film {
     fn byte(&self, at: usize) -> Option<u8> {
         let start = self.last?;
         let size = numbers_at(self.tape.as_slice(), start).length as usize;
-        if at < size {
-            Some(self.tape[start + HEAD + at])
-        } else {
-            None
-        }
+        self.tape[start + HEAD..][..size].get(at).copied()
     }
 }

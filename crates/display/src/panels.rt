@@ -63,10 +63,6 @@ impl Display for Panel {
 
     fn byte(&self, at: usize) -> Option<u8> {
         let held = self.held?;
-        if at < held.length as usize {
-            Some(self.memory[at])
-        } else {
-            None
-        }
+        self.memory[..held.length as usize].get(at).copied()
     }
 }

@@ -9,13 +9,6 @@ use moment::read_time;
 use refusal::Fault;
 use refusal::causes::{Cause, Layer};
 
-// The refusal of data that give no value.
-const MALFORMED: Fault = Fault {
-    cause: Cause::ParameterMalformed,
-    layer: Layer::Header,
-    place: 0,
-};
-
 // The refusal of a header for this cause, at this place.
 pub fn refused(cause: Cause, place: u16) -> Fault
     ensures { result ≡ refusal_at cause place }
@@ -94,18 +87,19 @@ impl<'a> Found<'a> {
         ensures { left_with result (found_of self.new) ≡ taken kind place (part_of parameter.entry) (found_of self.old) }
     {
         let bytes = parameter.bytes;
+        let malformed = refused(Cause::ParameterMalformed, place);
         match meaning(kind, parameter.id) {
             Meaning::ExpireTime => keep(&mut self.expire, read_time(bytes), place),
             Meaning::TriggerTime => keep(&mut self.trigger, read_time(bytes), place),
             Meaning::VersionNumber => keep(
                 &mut self.version,
-                version(bytes).ok_or(MALFORMED),
+                version(bytes).ok_or(malformed),
                 place,
             ),
-            Meaning::ContentName => keep(&mut self.name, label(bytes).ok_or(MALFORMED), place),
+            Meaning::ContentName => keep(&mut self.name, label(bytes).ok_or(malformed), place),
             Meaning::CategorySlide => keep(
                 &mut self.category,
-                category(bytes).ok_or(MALFORMED),
+                category(bytes).ok_or(malformed),
                 place,
             ),
             Meaning::Skipped => Ok(()),

@@ -3,7 +3,8 @@ ghost use Rattle.std.specs.Prelude.{◌≡◌, ◌==◌, position};
 ghost use Rattle.std.specs.Iterator.{YieldsFirstRef, item_count};
 ghost use Rattle.hexpairs.specs.Lines.{FirstLine, lines_of, left_of};
 
-// The lines of a text that are still to come.
+// The lines of a text that are still to come. No `split_inclusive`: with its closure it has no type that `lines_of` could
+// name, and a result `impl Iterator` gets no proof.
 #[derive(Drop)]
 pub struct Lines<'a> {
     left: &'a [u8],
@@ -56,7 +57,7 @@ mod tests {
     use std::test::Fail;
 
     #[test]
-    fn texts(rt: HostRuntime) -> Result<(), Fail> {
+    fn lines_of_texts(rt: HostRuntime) -> Result<(), Fail> {
         assert!(rt; lines_of(b"").count() == 0);
         assert!(rt; lines_of(b"a\n").count() == 1);
         assert!(rt; lines_of(b"\n\r\n").count() == 2);
