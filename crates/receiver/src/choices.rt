@@ -1,11 +1,10 @@
 // Which slot a header gets.
 ghost use Rattle.std.specs.Prelude.{◌≡◌, ◌&&◌, None};
 ghost use Rattle.receiver.specs.Views.{state_of};
-ghost use Rattle.rules.specs.Headers.{is_held, idle, lower, oldest_from, slot_for};
+ghost use Rattle.rules.specs.Headers.{is_held, idle, oldest_from, slot_for};
 ghost use Rattle.rules.specs.Worlds.{slot_at};
 ghost use Rattle.slots.specs.Searches.{first_free};
 ghost use Rattle.slots.specs.Seen.{all_seen, index_of};
-ghost use Rattle.slots.specs.Slides.{number_in};
 
 use crate::parts::Parts;
 use shelf::entries::Entry;
@@ -20,33 +19,21 @@ fn is_idle(waiting: &[Entry<u64>], k: u32) -> bool
 }
 
 impl Parts {
-    // Whether slot k has a slide with a lower number than the best one so far, and no trigger waits for it.
-    fn goes_before(&self, k: SlotIndex, best: Option<SlotIndex>) -> bool
-        ensures { result ≡ (is_held (slot_at (state_of self.now) k.index) && (idle (state_of self.now).waiting k.index && lower (state_of self.now) (number_in (slot_at (state_of self.now) k.index)) (index_of best))) }
+    // Whether slot k holds a slide, and no trigger waits for it.
+    fn may_go(&self, k: SlotIndex) -> bool
+        ensures { result ≡ (is_held (slot_at (state_of self.now) k.index) && idle (state_of self.now).waiting k.index) }
     {
-        let Some(holding) = self.slots.at(k).holding() else {
-            return false;
-        };
-        if !is_idle(self.waiting.list(), k.into()) {
-            return false;
-        }
-        best.is_none_or(|j| holding.number < self.number_at(j))
+        self.slots.at(k).holding().is_some() && is_idle(self.waiting.list(), k.into())
     }
 
     // The slot of the held slide with the lowest number among those for which no trigger waits.
     pub(crate) fn oldest(&self) -> Option<SlotIndex>
         ensures { index_of result ≡ oldest_from (state_of self.now) 0 (all_seen self.now.slots) None }
     {
-        // the best one so far is compared through the receiver: no plainer as a chain
-        let mut best = None;
-        for index in 0..12 {
-            if let Some(k) = SlotIndex::new(index)
-                && self.goes_before(k, best)
-            {
-                best = Some(k);
-            }
-        }
-        best
+        (0..12)
+            .filter_map(SlotIndex::new)
+            .filter(|k| self.may_go(*k))
+            .min_by_key(|k| self.number_at(*k))
     }
 
     // The next free slot behind the one given last.

@@ -26,7 +26,7 @@ use slots::records::{Arrival, Slots};
 use slots::sought::Versioned;
 
 // The last accession number that can be given.
-const LAST_NUMBER: u32 = 4_294_967_295;
+const LAST_NUMBER: u32 = u32::MAX;
 
 // Takes the slide in slot k off the places; a slot that holds no slide leaves them as they are.
 fn forget(places: &mut Places, slots: &Slots, k: SlotIndex)

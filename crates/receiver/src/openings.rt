@@ -49,11 +49,6 @@ impl<D: Display, P: Drop> Receiver<D, P> {
     pub fn close(self) -> D
         ensures { result ≡ self.display }
     {
-        let Receiver {
-            parts: _,
-            display: shown,
-            phase: _,
-        } = self;
-        shown
+        self.display
     }
 }

@@ -39,10 +39,10 @@ pub fn read_records<'a>(heap: Global, input: &'a [u8]) -> Result<Vec<Record<'a>>
 fn send<'a>(all: &mut Vec<Call<'a>>, said: &Record<'a>) -> Result<(), AllocError>
     ensures { OnOk result (all.new.items ≡ all.old.items ++ sends said.now) }
 {
-    match said {
-        Ok(call) => all.extend_from_slice(&[*call, Call::Card])?,
-        Err(_) => all.push(Call::Card)?,
+    if let Ok(call) = said {
+        all.push(*call)?;
     }
+    all.push(Call::Card)?;
     Ok(())
 }
 

@@ -8,6 +8,7 @@ ghost use Rattle.header.specs.Kept.{no_name};
 use crate::indices::SlotIndex;
 use crate::records::{Event, Slot, Slots};
 use crate::sought::{Free, SlotTest};
+use std::iter::successors;
 
 // The first slot that passes the test.
 pub fn find<T: SlotTest>(records: &[Slot], test: &T) -> Option<usize>
@@ -45,19 +46,13 @@ impl Slots {
         &self.records[k.get()]
     }
 
-    // The first free one among n slots, from slot k on, going round. A chain over two parts of the slots, or over remainders,
-    // would be no plainer than the step that the rule itself is told by.
+    // The first free one among n slots, from slot k on, going round.
     fn free_from(&self, n: usize, k: SlotIndex) -> Option<SlotIndex>
         ensures { index_of result ≡ free_from (all_seen self.now) n k.index }
     {
-        let mut at = k;
-        for _tried in 0..n {
-            if Free.passes(self.at(at)) {
-                return Some(at);
-            }
-            at = at.next();
-        }
-        None
+        successors(Some(k), |at| Some(at.next()))
+            .take(n)
+            .find(|at| Free.passes(self.at(*at)))
     }
 
     // The first free slot behind slot `recent`, which was given last, going round and ending with that one; none where
