@@ -123,17 +123,11 @@ impl Progress {
         landing
     }
 
-    // Whether all numbers below n are among those taken. By `all` it was tried: a range tells a proof too little of its items.
-    #[tactic(auto, using(crate::proofs::Numbers::covers_not))]
+    // Whether all numbers below n are among those taken.
     fn covers(&self, n: u16) -> bool
         ensures { result ≡ covers n self.now.taken }
     {
-        for number in 0..n {
-            if !self.has(number) {
-                return false;
-            }
-        }
-        true
+        (0..n).all(|number| self.has(number))
     }
 
     // Whether the last segment and all before it have come.
