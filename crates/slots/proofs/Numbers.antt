@@ -4,7 +4,7 @@ use native.Mathlib.Nat.{div-eq_of_lt, zero-div, div_self, mul-mod_left}
 use lib.Bits.{bit_or, or_shr, or_mod}
 use lib.Pow.{pow-lt, shl-shr}
 use Rattle.std.proofs.lemmas.Nat.{mod_below}
-use Rattle.std.proofs.lemmas.Bool.{cases_eq, cases_order, eq-eqb, ne_eqb, and_left, and_right, and_parts}
+use Rattle.std.proofs.lemmas.Bool.{cases_eq, cases_order, eq-eqb, ne_eqb, and_parts}
 use Rattle.std.specs.List.{list_all, range_with_len}
 use Rattle.slots.specs.Segments.{has, covers}
 
@@ -59,15 +59,6 @@ covers_has (suc n) taken h i k =
     go : (i ≡ n) ⊎ (i ≡ n → ⊥) → (i < n → has i taken ≡ true) → has n taken ≡ true → has i taken ≡ true
     go (inl e) ih t = rw e t
     go (inr d) ih t = ih (omega arith)
-
--- one that is missing
-pub covers_not : (n taken i : ℕ) → i < n → has i taken ≡ false → covers n taken ≡ false
-covers_not zero taken i k h = absurd (omega arith)
-covers_not (suc n) taken i k h = go (cases_eq i n) (λ l. covers_not n taken i l h)
-  where
-    go : (i ≡ n) ⊎ (i ≡ n → ⊥) → (i < n → covers n taken ≡ false) → covers (suc n) taken ≡ false
-    go (inl e) ih = and_left (has n taken) (covers n taken) (rw (← e) h)
-    go (inr d) ih = and_right (has n taken) (covers n taken) (ih (omega arith))
 
 -- they are counted up from 0 as well as down from n
 and_turn : (a b c : Bool) → ((a && b) && c) ≡ (b && (a && c))
