@@ -35,7 +35,7 @@ pub enum NoTime {
     Refused(Fault),
 }
 
-// By hand: the `From` of thiserror's `#[from]` has no contract that says what is made, and `told` needs one.
+// By hand: the `From` of thiserror's `#[from]` has no contract that says what is made, and the `?` in `told` needs one.
 impl From<Fault> for NoTime {
     ghost from_gives = { λ fault reason. reason ≡ Refused fault };
 
