@@ -1,5 +1,5 @@
 // A list of calls, sent one by one to a receiver that is opened for it.
-ghost use Rattle.std.specs.Prelude.{◌≡◌, ◌<◌, map, IfOk, OnOk};
+ghost use Rattle.std.specs.Prelude.{◌≡◌, ◌<◌, [], map, IfOk, OnOk};
 ghost use Rattle.calls.specs.Plain.{call_of, reply_of};
 ghost use Rattle.receiver.specs.Receivers.{world};
 ghost use Rattle.replay.specs.Ends.{Ran, Replays, world_at_end};
@@ -19,8 +19,9 @@ pub struct Replayed<D> {
     pub receiver: Ended<D>,
 }
 
-// Sends the calls to a running receiver, and puts the replies behind those that are there. Memory and replies stay
-// parameters of their own: of a struct that holds a `&mut` the checker proves less.
+// Sends the calls to a running receiver, and puts the replies behind those that are there. Tried: methods of a struct of
+// heap, memory and replies. They prove, but with a `new`, a method that lends the bytes, and a clause in each that the
+// reference stays the same one.
 fn run_on<D: Display>(
     heap: Global,
     receiver: &mut Receiver<D, Running>,
@@ -37,38 +38,40 @@ fn run_on<D: Display>(
     Ok(())
 }
 
-// The same for a receiver that was not set: from the first accepted setting on it runs. The rest of the calls is cut off by
-// index, since the checker does not cover a loop that splits the first call off a slice and moves the receiver.
+// Sends the calls to a receiver that was not set: from the first accepted setting on it runs. The rest of the calls is cut
+// off by index, since the checker does not cover a loop that splits the first call off a slice and moves the receiver.
 fn run_unset<D: Display + Drop>(
     heap: Global,
     opened: Receiver<D, Unset>,
     memory: &mut [u8],
     calls: &[Call<'_>],
-    said: &mut Vec<Reply>,
-) -> Result<Ended<D>, AllocError>
+) -> Result<Replayed<D>, AllocError>
     requires { opened.parts.clock ≡ 0 }
-    ensures { IfOk result (λ x. Ran (world D.Display.meaning opened memory.old) (map call_of calls.now) (map reply_of said.old.items) (map reply_of said.new.items) (world_at_end D.Display.meaning x memory.new)) }
+    ensures { IfOk result (λ x. Ran (world D.Display.meaning opened memory.old) (map call_of calls.now) [] (map reply_of x.replies.items) (world_at_end D.Display.meaning x.receiver memory.new)) }
 {
+    let mut replies = Vec::with_capacity(heap, calls.len())?;
     let mut receiver = opened;
     for (i, call) in calls.iter().enumerate() {
         if let Call::Time { bytes } = call {
             match receiver.set(memory, bytes) {
                 Ok(started) => {
-                    said.push(Reply::Counted(Ok(started.shows)))?;
+                    replies.push(Reply::Counted(Ok(started.shows)))?;
                     let mut running = started.receiver;
-                    run_on(heap, &mut running, memory, &calls[i + 1..], said)?;
-                    return Ok(Ended::NowRunning(running));
+                    run_on(heap, &mut running, memory, &calls[i + 1..], &mut replies)?;
+                    let receiver = Ended::NowRunning(running);
+                    return Ok(Replayed { replies, receiver });
                 }
                 Err(unmoved) => {
-                    said.push(Reply::Counted(Err(unmoved.fault)))?;
+                    replies.push(Reply::Counted(Err(unmoved.fault)))?;
                     receiver = unmoved.receiver;
                 }
             }
         } else {
-            said.push(ask(heap, &mut receiver, memory, call)?)?;
+            replies.push(ask(heap, &mut receiver, memory, call)?)?;
         }
     }
-    Ok(Ended::StillUnset(receiver))
+    let receiver = Ended::StillUnset(receiver);
+    Ok(Replayed { replies, receiver })
 }
 
 // Opens a receiver over a display, with slots of at most that size, and sends it the calls in order: a time field sets the
@@ -82,8 +85,5 @@ pub fn replay<D: Display + Drop>(
 ) -> Result<Replayed<D>, AllocError>
     ensures { IfOk result (λ x. Replays (D.Display.meaning display) slot_size memory.old (map call_of calls.now) (map reply_of x.replies.items) (world_at_end D.Display.meaning x.receiver memory.new)) }
 {
-    let mut replies = Vec::with_capacity(heap, calls.len())?;
-    let opened = Receiver::open(display, slot_size);
-    let receiver = run_unset(heap, opened, memory, calls, &mut replies)?;
-    Ok(Replayed { replies, receiver })
+    run_unset(heap, Receiver::open(display, slot_size), memory, calls)
 }

@@ -1,4 +1,4 @@
-use Rattle.std.proofs.Common.{◌≡◌, ℕ, List, ◌++◌, map, get_or, vec_items, sym, refl, ap, ◌∙◌, Ok, Err, Bor}
+use Rattle.std.proofs.Common.{◌≡◌, ℕ, List, map, get_or, vec_items, sym, refl, ap, ◌∙◌, Ok, Err, Bor}
 use Rattle.std.proofs.lemmas.List.{take_rest}
 use Rattle.calls.specs.Plain.{call_of, reply_of}
 use Rattle.calls.specs.declared.Call.{Call}
@@ -36,7 +36,7 @@ returns-in-Ok g c =
     let v : World = world g.D.Display.meaning c.in-Ok.started.receiver c.loop-i.memory in
     let n = c.in-Ok.started.shows in
     let e = step_setting u c.in-Time.bytes.now (counted n, v) c.loop-i.invariant.0 c.in-Ok.ensures ∙ ap (λ x. step u (call_of x)) (sym c.in-Time.is) in
-    let left = more (map reply_of (vec_items c.args.said.now) ++ replies w (map call_of cs)) (after w (map call_of cs)) (vec_items c.loop-i.said) (vec_items c.push.new.self) cs i _ (Counted (Ok n)) u v c.loop-i-test.true c.in_ok-push-in-Ok.ensures.items e c.loop-i.invariant.1 in
+    let left = more (replies w (map call_of cs)) (after w (map call_of cs)) (vec_items c.loop-i.replies) (vec_items c.push.new.self) cs i _ (Counted (Ok n)) u v c.loop-i-test.true c.in_ok-push-in-Ok.ensures.items e c.loop-i.invariant.1 in
     let r = rw take_rest at c.in_ok-run_on-in-Ok.ensures in
     (r.0 ∙ left.0, r.1 ∙ left.1)
 
@@ -46,19 +46,19 @@ loop-i-preserved g c =
     let cs = c.args.calls.now in
     let i = c.loop-i.i in
     let u : World = world g.D.Display.meaning c.loop-i.receiver c.loop-i.memory in
-    let all = map reply_of (vec_items c.args.said.now) ++ replies w (map call_of cs) in
+    let all = replies w (map call_of cs) in
     let end : World = after w (map call_of cs) in
     elim c.match-call.branch [
       | goal.in-Time+in-Err+in_ok-push-in-Err y ↦
           let v : World = world g.D.Display.meaning y.in-Err.unmoved.receiver c.loop-i.memory in
           let e = step_setting u y.in-Time.bytes.now (refused y.in-Err.unmoved.fault, v) c.loop-i.invariant.0 y.in-Err.ensures.0 ∙ ap (λ x. step u (call_of x)) (sym y.in-Time.is) in
           let k : v.state.clock ≡ 0 = ap (λ (x : World). x.state.clock) y.in-Err.ensures.1 ∙ c.loop-i.invariant.0 in
-          let r = more all end (vec_items c.loop-i.said) (vec_items y.push-in-Err.new.self) cs i _ (Counted (Err y.in-Err.unmoved.fault)) u v c.loop-i-test.true y.in_ok-push-in-Err.ensures.items e c.loop-i.invariant.1 in
-          rw (y.receiver-is, y.said-is, y.memory-is) (k, r)
+          let r = more all end (vec_items c.loop-i.replies) (vec_items y.push-in-Err.new.self) cs i _ (Counted (Err y.in-Err.unmoved.fault)) u v c.loop-i-test.true y.in_ok-push-in-Err.ensures.items e c.loop-i.invariant.1 in
+          rw (y.receiver-is, y.replies-is, y.memory-is) (k, r)
       | goal.in_default+in_ok-ask+in_ok-push y ↦
           let v : World = world g.D.Display.meaning y.ask.new.receiver y.ask.new.memory in
           let e : (reply_of y.in_ok-ask.field-0, v) ≡ step u (call_of (get_or cs i _)) = y.in_ok-ask.ensures in
           let k : v.state.clock ≡ 0 = ap (λ (o : Reply × World). o.1.state.clock) e ∙ (other_clock u (get_or cs i _) (no_time (get_or cs i _) y.in_default.not-Time) ∙ c.loop-i.invariant.0) in
-          let r = more all end (vec_items c.loop-i.said) (vec_items y.push-in_default.new.self) cs i _ y.in_ok-ask.field-0 u v c.loop-i-test.true y.in_ok-push.ensures.items e c.loop-i.invariant.1 in
-          rw (y.receiver-is, y.said-is, y.memory-is) (k, r)
+          let r = more all end (vec_items c.loop-i.replies) (vec_items y.push-in_default.new.self) cs i _ y.in_ok-ask.field-0 u v c.loop-i-test.true y.in_ok-push.ensures.items e c.loop-i.invariant.1 in
+          rw (y.receiver-is, y.replies-is, y.memory-is) (k, r)
     ]

@@ -1,4 +1,4 @@
-use Rattle.std.proofs.Common.{◌≡◌, ◌++◌, map, drop, vec_items}
+use Rattle.std.proofs.Common.{◌≡◌, map, drop, vec_items}
 use Rattle.calls.specs.Plain.{call_of, reply_of}
 use Rattle.receiver.specs.Receivers.{world}
 use Rattle.replay.proofs.Going.{Going}
@@ -13,4 +13,4 @@ invariant-loop-i g l =
     let v : World = world g.D.Display.meaning l.receiver l.memory in
     let cs = map call_of l.calls in
     (v.state.clock ≡ 0)
-    × Going (map reply_of (vec_items l.initial.said) ++ replies w cs) (after w cs) (map reply_of (vec_items l.said)) v (map call_of (drop l.i l.calls))
+    × Going (replies w cs) (after w cs) (map reply_of (vec_items l.replies)) v (map call_of (drop l.i l.calls))
