@@ -7,7 +7,7 @@ use Rattle.display.specs.Meaning.{Meaning, Card, Keeps}
 use Rattle.display.specs.declared.cards.CardNumbers.{CardNumbers}
 use Rattle.display.specs.Frame.{panel, panel_card}
 use Rattle.display.specs.Tape.{film, film_card}
-use Rattle.display.specs.Layering.{up, layered, layer_over, acting_period, acting_delay, edge_over, lag_over}
+use Rattle.display.specs.Layering.{up, layered, edged, delayed, layer_over, acting_period, acting_delay, edge_over, lag_over}
 
 pub up_low : (p t : ℕ) → 1 ≤ p → t ≤ up p t
 up_low p t h = omega (arith, div-add-mod' (t + (p - 1)) p, mod-lt (t + (p - 1)) h)
@@ -28,6 +28,15 @@ layered_keeps m most later early within order fits k = record {
   within_lag = λ t h. omega (arith, early t, within t, k.within_lag (later t) (omega (arith, within t)));
   in_order = λ t u le h. k.in_order (later t) (later u) (order t u le) (omega (arith, within u));
 }
+
+-- so it is kept at frame edges a period apart, and behind a delay
+pub edge_keeps : (m : Meaning) (p : ℕ) → 1 ≤ p → m.lag + (p - 1) ≤ 10000 → Keeps m → Keeps (edged p m)
+edge_keeps m p low fits k =
+    layered_keeps m (p - 1) (up p) (λ t. up_low p t low) (λ t. up_high p t) (λ t u le. up_in_order p t u low le) fits k
+
+pub lag_keeps : (m : Meaning) (d : ℕ) → m.lag + d ≤ 10000 → Keeps m → Keeps (delayed d m)
+lag_keeps m d fits k =
+    layered_keeps m d (λ t. t + d) (λ t. omega arith) (λ t. omega arith) (λ t u le. omega arith) fits k
 
 pub layer_keeps : (m : Meaning) (most : ℕ → ℕ) (later : ℕ → ℕ → ℕ) → ((lag t : ℕ) → t ≤ later lag t) → ((lag t : ℕ) → later lag t ≤ t + most lag) → ((lag t u : ℕ) → t ≤ u → later lag t ≤ later lag u) → ((lag : ℕ) → lag ≤ 10000 → lag + most lag ≤ 10000) → Keeps m → Keeps (layer_over most later m)
 layer_keeps m most later early within order fits k =
