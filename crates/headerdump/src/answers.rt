@@ -1,4 +1,5 @@
-// Why a line of the input says no header.
+// Why a line of the input says no header. An enum of its own beside the one of `frametime`: what they print differs, and one of
+// type parameters for the texts would be no plainer.
 use refusal::Fault;
 use thiserror::Error;
 

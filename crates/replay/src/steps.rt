@@ -11,7 +11,8 @@ use receiver::phases::Running;
 use receiver::receivers::Receiver;
 use std::alloc::{AllocError, Global};
 
-// The reply to the question for a body. It owns a copy, and want of memory for that is an error and no reply.
+// The reply to the question for a body. It owns a copy, and want of memory for that is an error and no reply: so a match, since
+// the two errors go different ways.
 #[tactic(auto, unfolding(rules::specs::Runs::step))]
 fn body<D: Display, P>(
     heap: Global,
