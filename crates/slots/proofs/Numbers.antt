@@ -1,11 +1,12 @@
 -- The set of numbers taken.
-use Rattle.std.proofs.Common.{◌≡◌, ℕ, zero, suc, ◌+◌, ◌-◌, ◌*◌, ◌/◌, ◌%◌, ◌^◌, ◌<◌, ◌≤◌, Bool, true, false, cond, ◌&&◌, ◌||◌, eqb, ◌⊎◌, refl, ap, ◌∙◌, inl, inr, arith, pow_pos, pow_mono, pow-add}
+use Rattle.std.proofs.Common.{◌≡◌, ℕ, zero, suc, ◌+◌, ◌-◌, ◌*◌, ◌/◌, ◌%◌, ◌^◌, ◌<◌, ◌≤◌, Bool, true, false, cond, ◌&&◌, ◌||◌, eqb, ◌⊎◌, refl, sym, ap, ◌∙◌, inl, inr, arith, pow_pos, pow_mono, pow-add}
 use native.Mathlib.Nat.{div-eq_of_lt, zero-div, div_self, mul-mod_left}
 use lib.Bits.{bit_or, or_shr, or_mod}
 use lib.Pow.{pow-lt, shl-shr}
 use Rattle.std.proofs.lemmas.Nat.{mod_below}
 use Rattle.std.proofs.lemmas.Bool.{cases_eq, cases_order, eq-eqb, ne_eqb, and_parts}
 use Rattle.std.specs.List.{list_all, range_with_len}
+use Rattle.std.proofs.Math.Bool.{and_comm, and_assoc, and-true}
 use Rattle.slots.specs.Segments.{has, covers}
 
 -- none is taken at first
@@ -61,27 +62,19 @@ covers_has (suc n) taken h i k =
     go (inr d) ih t = ih (omega arith)
 
 -- they are counted up from 0 as well as down from n
-and_turn : (a b c : Bool) → ((a && b) && c) ≡ (b && (a && c))
-and_turn true b c = refl
-and_turn false true c = refl
-and_turn false false c = refl
-
 covers_from : (a n taken : ℕ) → (list_all (λ i. has i taken) (range_with_len a n) && covers a taken) ≡ covers (a + n) taken
 covers_from a zero taken = let e : a ≡ a + 0 = omega arith in ap (λ (k : ℕ). covers k taken) e
 covers_from a (suc n) taken =
     let next : suc a ≡ a + 1 = omega arith in
     let all : (a + 1) + n ≡ a + suc n = omega arith in
     let up : Bool = list_all (λ i. has i taken) (range_with_len (a + 1) n) in
-    and_turn (has a taken) up (covers a taken)
+    ap (λ (b : Bool). b && covers a taken) (and_comm (has a taken) up)
+    ∙ and_assoc up (has a taken) (covers a taken)
     ∙ ap (λ (k : ℕ). up && covers k taken) next
     ∙ covers_from (a + 1) n taken
     ∙ ap (λ (k : ℕ). covers k taken) all
 
-and_true : (b : Bool) → b ≡ (b && true)
-and_true true = refl
-and_true false = refl
-
 pub covers_up : (n taken : ℕ) → list_all (λ i. has i taken) (range_with_len 0 n) ≡ covers n taken
 covers_up n taken =
     let e : 0 + n ≡ n = omega arith in
-    and_true (list_all (λ i. has i taken) (range_with_len 0 n)) ∙ covers_from 0 n taken ∙ ap (λ (k : ℕ). covers k taken) e
+    sym (and-true (list_all (λ i. has i taken) (range_with_len 0 n))) ∙ covers_from 0 n taken ∙ ap (λ (k : ℕ). covers k taken) e

@@ -3,7 +3,7 @@ ghost use Rattle.std.specs.Prelude.{◌≡◌, map, replicate, slice_index_or, s
 ghost use Rattle.header.specs.Kept.{name_of, no_name};
 ghost use Rattle.header.specs.Names.{NameRecord};
 ghost use Rattle.slots.specs.Seen.{seen, state_of, event_of, object_of, slide_in, label, all_seen, all_names};
-ghost use Rattle.slots.specs.Slides.{passed, ends, moved, free, arriving};
+ghost use Rattle.slots.specs.Slides.{passed, ends, moved, free, arriving, slide_of};
 ghost use Rattle.slots.specs.Slides as slides;
 
 use crate::progress::Segment;
@@ -31,6 +31,20 @@ impl State {
             State::Free => false,
             State::Arriving(arrival) => passed(moment, arrival.expire),
             State::Held(holding) => passed(moment, holding.expire),
+        }
+    }
+}
+
+// The slide that an object becomes.
+impl From<Arrival> for Holding {
+    ghost from_gives = { λ a h. (n : NameRecord) → slide_in h n ≡ slide_of (object_of a n) };
+
+    fn from(arrival: Arrival) -> Holding {
+        Holding {
+            number: arrival.number,
+            version: arrival.version,
+            expire: arrival.expire,
+            size: arrival.progress.size,
         }
     }
 }

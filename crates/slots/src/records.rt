@@ -28,20 +28,6 @@ pub struct Holding {
     pub size: u32,
 }
 
-// The slide that an object becomes.
-impl From<Arrival> for Holding {
-    ghost from_gives = { λ a h. h ≡ record { number = a.number; version = a.version; expire = a.expire; size = a.progress.size } };
-
-    fn from(arrival: Arrival) -> Holding {
-        Holding {
-            number: arrival.number,
-            version: arrival.version,
-            expire: arrival.expire,
-            size: arrival.progress.size,
-        }
-    }
-}
-
 // What a slot is in.
 #[derive(Clone, Copy)]
 pub enum State {
