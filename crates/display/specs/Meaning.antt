@@ -38,6 +38,10 @@ pub record Keeps (m : Meaning) : Type 0 where
 abbrev pub Accepts : Meaning → ℕ → ℕ → List ℕ → Type 0
 Accepts m a t b = (0 < length b) × (length b ≤ m.frame) × (0 < a) × (t ≤ bound m)
 
+-- one thing where a show is accepted, another where it is refused
+abbrev pub ByShow : Meaning → ℕ → ℕ → List ℕ → Type 0 → Type 0 → Type 0
+ByShow m a t b P Q = (Accepts m a t b → P) × ((Accepts m a t b → ⊥) → Q)
+
 -- the display with another card
 abbrev pub with_card : Meaning → Card → Meaning
 with_card m c = record { frame = m.frame; lag = m.lag; settle = m.settle; card = Some c }

@@ -1,10 +1,9 @@
 -- What a film means, by the bytes of its tape and where its last entry begins.
-use Rattle.std.specs.Prelude.{◌≡◌, ℕ, ◌+◌, ◌-◌, ◌*◌, ◌^◌, min, cond, List, ◌++◌, length, take, drop, Some, None, Ok, Err, Option, Result, nat_le}
+use Rattle.std.specs.Prelude.{◌≡◌, ℕ, ◌+◌, ◌-◌, ◌*◌, ◌^◌, min, cond, List, ◌++◌, length, take, drop, Some, None, Option, nat_le}
 use Rattle.display.specs.Meaning.{Meaning, Card}
 use Rattle.display.specs.declared.cards.CardNumbers.{CardNumbers}
 use Rattle.packed.specs.Bits.{whole, field, bytes_of}
 use Rattle.packed.specs.Parts.{pasted}
-use Rattle.refusal.specs.declared.Fault.{Fault}
 
 -- An entry is a head of twelve bytes and a body. The head has the accession in 32 bits, then since in 44 and the
 -- body's length in 20, most significant bit first.
@@ -45,8 +44,7 @@ place_for tape last n = cond (nat_le (end_of tape last + 12 + n) (length tape)) 
 abbrev pub entry_bytes : ℕ → ℕ → List ℕ → List ℕ
 entry_bytes a s b = bytes_of 4 a ++ (bytes_of 8 (s * 2 ^ 20 + length b) ++ b)
 
--- a show: from the tape and the last entry before it to the answer and those after it
-abbrev pub Recorded : {U : Type 0} → List ℕ → Option ℕ → ℕ → ℕ → List ℕ → Result U Fault → List ℕ → Option ℕ → Type 0
-Recorded tape last a s b (Ok u) tape' last' =
+-- an accepted show: the entry's bytes lie at its place and no other byte of the tape changes
+abbrev pub Recorded : List ℕ → Option ℕ → ℕ → ℕ → List ℕ → List ℕ → Option ℕ → Type 0
+Recorded tape last a s b tape' last' =
     (tape' ≡ pasted tape (place_for tape last (length b)) (entry_bytes a s b)) × (last' ≡ Some (place_for tape last (length b)))
-Recorded tape last a s b (Err e) tape' last' = (tape' ≡ tape) × (last' ≡ last)

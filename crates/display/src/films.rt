@@ -1,6 +1,6 @@
 // The film: a display that appends each card to a tape and reads it back from the tape's own bytes.
 ghost use Rattle.std.specs.Prelude.{◌≡◌, ℕ, ◌+◌, ◌-◌, ◌^◌, ◌<◌, ◌≤◌, min, length, None, vec_len};
-ghost use Rattle.display.specs.Meaning.{blank, Shows};
+ghost use Rattle.display.specs.Meaning.{blank, ByShow};
 ghost use Rattle.display.specs.Tape.{film, end_of, head_at, place_for, entry_bytes, Recorded};
 ghost use Rattle.packed.specs.Parts.{pasted};
 ghost use Rattle.display.specs.Lifted.{film_keeps};
@@ -97,12 +97,11 @@ fn write_entry(tape: &mut Vec<u8>, at: usize, accession: u32, since: u64, body: 
 impl Display for Film {
     ghost meaning = { λ f. film f.tape.items f.last };
 
+    ghost told = { λ f a t b g. ByShow (film f.tape.items f.last) a t b (Recorded f.tape.items f.last a t b g.tape.items g.last) (g ≡ f) };
+
     ghost keeps = { λ f. film_keeps f.tape.items f.last };
 
-    fn show(&mut self, accession: u32, moment: u64, body: &[u8]) -> Result<(), Fault>
-        ensures shows { Shows (film self.old.tape.items self.old.last) accession moment body.now result (film self.new.tape.items self.new.last) }
-        ensures recorded { Recorded self.old.tape.items self.old.last accession moment body.now result self.new.tape.items self.new.last }
-    {
+    fn show(&mut self, accession: u32, moment: u64, body: &[u8]) -> Result<(), Fault> {
         let size = body.len();
         admit(self.frame(), accession, moment, size)?;
         let at = self.place(size);

@@ -1,6 +1,6 @@
 // A layer: over any display, a layered one too, and a display again.
 ghost use Rattle.std.specs.Prelude.{◌≡◌, ℕ, ◌+◌, ◌≤◌};
-ghost use Rattle.display.specs.Layering.{layer_over, Told};
+ghost use Rattle.display.specs.Layering.{layer_over, Told, ToldBelow};
 ghost use Rattle.display.specs.Lifted.{layer_keeps};
 
 use crate::cards::CardNumbers;
@@ -60,6 +60,8 @@ impl<D: Display, S: Shift> Layer<D, S> {
 
 impl<D: Display, S: Shift> Display for Layer<D, S> {
     ghost meaning = { λ l. layer_over (S.Shift.most l.shift) (S.Shift.later l.shift) (D.Display.meaning l.below) };
+
+    ghost told = { λ l a t b n. ToldBelow D.Display.told (D.Display.meaning l.below).lag (S.Shift.most l.shift) (S.Shift.later l.shift) l.below a t b n.below × (n.shift ≡ l.shift) };
 
     ghost keeps = { λ l. layer_keeps _ _ _ (S.Shift.not_early l.shift) (S.Shift.within l.shift) (S.Shift.in_order l.shift) (S.Shift.fits l.shift) (D.Display.keeps l.below) };
 

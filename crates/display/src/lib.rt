@@ -1,7 +1,7 @@
 // Displays: what one means, and the calls that every one answers.
 #![tactic(auto)]
 
-ghost use Rattle.std.specs.Prelude.{◌≡◌};
+ghost use Rattle.std.specs.Prelude.{◌≡◌, ℕ, List};
 ghost use Rattle.display.specs.Meaning.{Meaning, Keeps, Shows, Settles, numbers, Byte};
 
 pub mod cards;
@@ -41,10 +41,14 @@ const SHOW_REFUSED: Fault = Fault {
 pub trait Display {
     ghost meaning: { Self → Meaning };
 
+    // What one call of show makes of this very display: the display before, accession, moment, body, the display after.
+    ghost told: { Self → ℕ → ℕ → List ℕ → Self → Type 0 };
+
     // Shows a body from a moment on, or refuses and leaves the card. Number, moment and body are this call's alone: a struct
     // of them would be made for each call and taken apart in it.
     fn show(&mut self, accession: u32, moment: u64, body: &[u8]) -> Result<(), Fault>
-        ensures { Shows (meaning self.old) accession moment body.now result (meaning self.new) };
+        ensures shows { Shows (meaning self.old) accession moment body.now result (meaning self.new) }
+        ensures tells { told self.old accession moment body.now self.new };
 
     // How many bytes a body may have.
     fn frame(&self) -> u32

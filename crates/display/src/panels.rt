@@ -1,7 +1,7 @@
 // The panel: a display that copies each body into its frame memory.
 ghost use Rattle.std.specs.Prelude.{◌≡◌, ℕ, ◌≤◌, min, None, vec_len};
-ghost use Rattle.display.specs.Frame.{panel, used};
-ghost use Rattle.display.specs.Meaning.{blank};
+ghost use Rattle.display.specs.Frame.{panel, used, Framed};
+ghost use Rattle.display.specs.Meaning.{blank, ByShow};
 ghost use Rattle.display.specs.Lifted.{panel_keeps};
 
 use crate::cards::CardNumbers;
@@ -30,6 +30,8 @@ impl Panel {
 
 impl Display for Panel {
     ghost meaning = { λ p. panel p.memory.items p.held };
+
+    ghost told = { λ p a t b q. ByShow (panel p.memory.items p.held) a t b (Framed p.memory.items a t b q.memory.items q.held) (q ≡ p) };
 
     ghost keeps = { λ p. panel_keeps p.memory.items p.held };
 

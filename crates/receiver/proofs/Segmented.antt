@@ -1,9 +1,11 @@
 -- A segment call by what is found, and where the segment lands.
-use Rattle.std.proofs.Common.{◌≡◌, ℕ, ◌+◌, ◌*◌, ◌<◌, ◌≤◌, Bool, true, false, List, Some, None, Option, Err, Result, sym, refl, ap, ◌∙◌, arith}
+use Rattle.std.proofs.Common.{◌≡◌, ℕ, ◌+◌, ◌*◌, ◌<◌, ◌≤◌, Bool, true, false, List, [], Some, None, Option, Err, Result, sym, refl, ap, ◌∙◌, arith}
 use Rattle.refusal.specs.declared.causes.Cause.TheVariants.{BodyMemoryMisfit, NotArriving}
 use Rattle.rules.specs.Assembly.{assembly_fault, on_arriving, on_landing, segment_of, segment_step}
+use Rattle.rules.specs.Effects.{landing_effects, segment_effects}
 use Rattle.rules.specs.Headers.{receiver_fault, on_some}
 use Rattle.rules.specs.Soundness.{Sound, SlotSound}
+use Rattle.rules.specs.Triggers.{Effect}
 use Rattle.rules.specs.Worlds.{State, World, slot_at, fits_memory}
 use Rattle.rules.specs.declared.answers.Answer.{Answer}
 use Rattle.rules.specs.declared.answers.Answer.TheVariants.{Refused}
@@ -63,6 +65,38 @@ module _ (w : World) (t n : ℕ) (last : Bool) (xs : List ℕ) where
   pub object_takes : (k : ℕ) (o : Object) (l : Landing) → fits_memory w ≡ true → Some k ≡ first_slot (comes t) w.state.slots → slot_at w.state k ≡ arriving o → l ≡ landing o.progress (segment_of n last xs) → on_landing l k o (segment_of n last xs) xs w ≡ segment_step w t n last xs
   object_takes k o l h e i q =
       ap (λ x. on_landing x k o (segment_of n last xs) xs w) q ∙ (ap (λ z. on_arriving z nowhere (at_object k)) (sym i) ∙ found (Some k) h e)
+
+-- and what takes effect in it
+module _ (w : World) (t n : ℕ) (last : Bool) (xs : List ℕ) where
+  abbrev told_object : ℕ → Object → List Effect
+  told_object k o = landing_effects (landing o.progress (segment_of n last xs)) k o (segment_of n last xs) xs w
+
+  abbrev told_slot : Option ℕ → List Effect
+  told_slot f = on_some f [] (λ k. on_arriving (slot_at w.state k) [] (told_object k))
+
+  pub segment_misfit_tells : fits_memory w ≡ false → [] ≡ segment_effects w t n last xs
+  unfolding segment_effects
+  segment_misfit_tells h = sym (cond-false (fits_memory w) (told_slot (first_slot (comes t) w.state.slots)) [] h)
+
+  found_tells : (f : Option ℕ) → fits_memory w ≡ true → f ≡ first_slot (comes t) w.state.slots → told_slot f ≡ segment_effects w t n last xs
+  unfolding segment_effects
+  found_tells f h e =
+      ap told_slot e ∙ sym (cond-true (fits_memory w) (told_slot (first_slot (comes t) w.state.slots)) [] h)
+
+  pub none_arrives_tells : fits_memory w ≡ true → None ≡ first_slot (comes t) w.state.slots → [] ≡ segment_effects w t n last xs
+  none_arrives_tells h e = found_tells None h e
+
+  pub no_object_tells : (k : ℕ) → fits_memory w ≡ true → Some k ≡ first_slot (comes t) w.state.slots → object_in (slot_at w.state k) ≡ None → [] ≡ segment_effects w t n last xs
+  no_object_tells k h e q = go (slot_at w.state k) q ∙ found_tells (Some k) h e
+    where
+      go : (z : Slot) → object_in z ≡ None → [] ≡ on_arriving z [] (told_object k)
+      go free i = refl
+      go (arriving o) i = let b : ◌≡◌ {A = ℕ} 0 1 = cc in absurd (omega arith)
+      go (held x) i = refl
+
+  pub object_tells : (k : ℕ) (o : Object) (l : Landing) → fits_memory w ≡ true → Some k ≡ first_slot (comes t) w.state.slots → slot_at w.state k ≡ arriving o → l ≡ landing o.progress (segment_of n last xs) → landing_effects l k o (segment_of n last xs) xs w ≡ segment_effects w t n last xs
+  object_tells k o l h e i q =
+      ap (λ x. landing_effects x k o (segment_of n last xs) xs w) q ∙ (ap (λ z. on_arriving z [] (told_object k)) (sym i) ∙ found_tells (Some k) h e)
 
 -- a segment that lands lies within its body
 pub lands_within : (p : Progress) (g : Segment) (at : ℕ) → At at ≡ landing p g → at + g.length ≤ p.size

@@ -1,10 +1,11 @@
 -- The object that arrives in a slot, and what becomes of it with a segment.
-use Rattle.std.specs.Prelude.{◌≡◌, ℕ, cond, Some, None, Option, slice_index_or}
+use Rattle.std.specs.Prelude.{◌≡◌, ℕ, cond, List, [], Some, None, Option, slice_index_or}
 use Rattle.header.specs.Kept.{no_name}
 use Rattle.receiver.specs.Views.{state_of}
 use Rattle.receiver.specs.declared.parts.Parts.{Parts}
 use Rattle.rules.specs.Assembly.{put, filed, told_filing}
-use Rattle.rules.specs.Triggers.{verdict}
+use Rattle.rules.specs.Effects.{filed_effects}
+use Rattle.rules.specs.Triggers.{verdict, Effect}
 use Rattle.rules.specs.Worlds.{World, slot_at, with_state}
 use Rattle.rules.specs.declared.answers.Answer.{Answer}
 use Rattle.rules.specs.declared.answers.Answer.TheVariants.{Taken}
@@ -40,3 +41,11 @@ come_to k o q w =
 -- a segment whose bytes are in memory
 abbrev pub laid : ℕ → Object → Segment → World → Answer × World
 laid k o g w = come_to k o (after_segment o.progress g) w
+
+-- and what takes effect with it
+abbrev pub come_to_effects : ℕ → Object → Progress → World → List Effect
+come_to_effects k o q w =
+    cond (complete q) (filed_effects k (with_progress o q) (with_state (put k (arriving (with_progress o q)) w.state) w)) []
+
+abbrev pub laid_effects : ℕ → Object → Segment → World → List Effect
+laid_effects k o g w = come_to_effects k o (after_segment o.progress g) w

@@ -6,3 +6,4 @@ pub mod Receivers
 pub mod Settings
 pub mod Bodies
 pub mod Images
+pub mod Answers

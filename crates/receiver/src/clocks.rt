@@ -4,7 +4,9 @@ ghost use Rattle.display.specs.Meaning.{Meaning};
 ghost use Rattle.receiver.specs.Views.{state_of, world_of};
 ghost use Rattle.rules.specs.Calls.{counted};
 ghost use Rattle.rules.specs.Clocks.{prepared, set_to};
+ghost use Rattle.rules.specs.Effects.{due_effects};
 ghost use Rattle.rules.specs.Passes.{seen, shot, passed_to};
+ghost use Rattle.rules.specs.Reached.{Reached};
 ghost use Rattle.rules.specs.Worlds.{slot_at, show_all};
 ghost use Rattle.slots.specs.Slides.{ends};
 
@@ -38,6 +40,7 @@ impl Parts {
         requires { entry.now.load < 12 }
         ensures due { result ≡ seen (state_of self.now) moment entry.now }
         ensures shows { D.Display.meaning display.new ≡ (if result then show_all (D.Display.meaning display.old) (shot (world_of self.now memory.now (D.Display.meaning display.old)) entry.now ∷ []) else D.Display.meaning display.old) }
+        ensures reached { Reached D.Display.told display.old (if result then shot (world_of self.now memory.now (D.Display.meaning display.old)) entry.now ∷ [] else []) display.new }
     {
         let Some(k) = SlotIndex::new(entry.load as usize) else {
             unreachable!()
@@ -53,6 +56,7 @@ impl Parts {
     fn show_due<D: Display>(&self, display: &mut D, memory: &[u8], moment: u64) -> usize
         ensures count { result ≡ length (filter (seen (state_of self.now) moment) (state_of self.now).waiting) }
         ensures shows { D.Display.meaning display.new ≡ show_all (D.Display.meaning display.old) (map (shot (world_of self.now memory.now (D.Display.meaning display.old))) (filter (seen (state_of self.now) moment) (state_of self.now).waiting)) }
+        ensures reached { Reached D.Display.told display.old (map (shot (world_of self.now memory.now (D.Display.meaning display.old))) (filter (seen (state_of self.now) moment) (state_of self.now).waiting)) display.new }
     {
         let list = self.waiting.list();
         let mut count = 0;
@@ -68,6 +72,7 @@ impl Parts {
     pub(crate) fn pass<D: Display>(&mut self, display: &mut D, memory: &[u8], moment: u64) -> usize
         ensures count { result ≡ length (filter (seen (state_of self.old) moment) (state_of self.old).waiting) }
         ensures world { world_of self.new memory.now (D.Display.meaning display.new) ≡ passed_to moment (world_of self.old memory.now (D.Display.meaning display.old)) }
+        ensures reached { Reached D.Display.told display.old (map (shot (world_of self.old memory.now (D.Display.meaning display.old))) (filter (seen (state_of self.old) moment) (state_of self.old).waiting)) display.new }
     {
         let count = self.show_due(display, memory, moment);
         self.waiting.keep(&After(moment));
@@ -91,7 +96,8 @@ impl Parts {
         memory: &[u8],
         moment: u64,
     ) -> usize
-        ensures { (counted result, world_of self.new memory.now (D.Display.meaning display.new)) ≡ set_to moment (world_of self.old memory.now (D.Display.meaning display.old)) }
+        ensures world { (counted result, world_of self.new memory.now (D.Display.meaning display.new)) ≡ set_to moment (world_of self.old memory.now (D.Display.meaning display.old)) }
+        ensures reached { Reached D.Display.told display.old (due_effects moment (prepared moment (world_of self.old memory.now (D.Display.meaning display.old)))) display.new }
     {
         self.prepare(moment);
         self.pass(display, memory, moment)

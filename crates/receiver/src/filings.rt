@@ -1,9 +1,11 @@
 // A complete object becomes a held slide.
 ghost use Rattle.std.specs.Prelude.{◌≡◌, true, slice_index_or};
 ghost use Rattle.header.specs.Kept.{no_name};
-ghost use Rattle.receiver.specs.Arrivals.{object_at, more, with_segment, laid};
+ghost use Rattle.receiver.specs.Arrivals.{object_at, more, with_segment, laid, laid_effects};
 ghost use Rattle.receiver.specs.Views.{state_of, world_of};
 ghost use Rattle.rules.specs.Assembly.{put, filed, told_filing};
+ghost use Rattle.rules.specs.Effects.{filed_effects};
+ghost use Rattle.rules.specs.Reached.{Reached};
 ghost use Rattle.rules.specs.Triggers.{verdict};
 ghost use Rattle.rules.specs.Worlds.{slot_at, vacate};
 ghost use Rattle.slots.specs.Seen.{all_names};
@@ -37,6 +39,7 @@ impl Parts {
         requires complete { complete (after_segment arrival.progress segment) ≡ true }
         ensures answer { result ≡ told_filing (verdict self.old.clock arrival.trigger) arrival.number }
         ensures world { world_of self.new memory.now (D.Display.meaning display.new) ≡ filed k.index (more (object_at self.old k.index arrival) segment) (with_segment k.index (object_at self.old k.index arrival) segment (world_of self.old memory.now (D.Display.meaning display.old))) }
+        ensures reached { Reached D.Display.told display.old (filed_effects k.index (more (object_at self.old k.index arrival) segment) (with_segment k.index (object_at self.old k.index arrival) segment (world_of self.old memory.now (D.Display.meaning display.old)))) display.new }
     {
         let name = self.name_at(k);
         self.vacate(&Named(name.label()));
@@ -56,7 +59,8 @@ impl Parts {
         segment: Segment,
     ) -> Answer
         requires { slot_at (state_of self.old) k.index ≡ arriving (object_at self.old k.index arrival) }
-        ensures { (result, world_of self.new memory.now (D.Display.meaning display.new)) ≡ laid k.index (object_at self.old k.index arrival) segment (world_of self.old memory.now (D.Display.meaning display.old)) }
+        ensures world { (result, world_of self.new memory.now (D.Display.meaning display.new)) ≡ laid k.index (object_at self.old k.index arrival) segment (world_of self.old memory.now (D.Display.meaning display.old)) }
+        ensures reached { Reached D.Display.told display.old (laid_effects k.index (object_at self.old k.index arrival) segment (world_of self.old memory.now (D.Display.meaning display.old))) display.new }
     {
         let mut progress = arrival.progress;
         let _ = progress.take(segment);

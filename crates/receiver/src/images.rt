@@ -5,6 +5,7 @@ ghost use Rattle.header.specs.Finds.{name_of_label};
 ghost use Rattle.header.specs.Headers.{record_of};
 ghost use Rattle.header.specs.Kept.{name_of};
 ghost use Rattle.rack.specs.Listed.{filed};
+ghost use Rattle.receiver.specs.Answers.{Stays};
 ghost use Rattle.receiver.specs.Images.{AnnouncesImage};
 ghost use Rattle.receiver.specs.Views.{state_of, world_of, said};
 ghost use Rattle.rules.specs.Headers.{begun, new_image, image_step};
@@ -58,7 +59,8 @@ impl Parts {
     // Begins the object of a new image: it must expire above the clock, and there must be a slot and a number for it.
     pub(crate) fn new_image(&mut self, transport: u16, header: &Header<'_>) -> Result<Answer, Fault>
         requires { AnnouncesImage self.old.room (record_of header.now) }
-        ensures { (m : Meaning) (memory : List ℕ) → (said result, world_of self.new memory m) ≡ new_image (world_of self.old memory m) transport (image_of (record_of header.now)) }
+        ensures world { (m : Meaning) (memory : List ℕ) → (said result, world_of self.new memory m) ≡ new_image (world_of self.old memory m) transport (image_of (record_of header.now)) }
+        ensures refused { Stays (said result) self.old self.new }
     {
         if passed(self.clock, header.expire) {
             return Err(EXPIRY_NOT_AHEAD);
@@ -77,7 +79,8 @@ impl Parts {
     // Takes an image header: a repeat if a slide of its name and version is held, or if it arrives just so.
     pub(crate) fn image(&mut self, transport: u16, header: &Header<'_>) -> Result<Answer, Fault>
         requires { AnnouncesImage self.old.room (record_of header.now) }
-        ensures { (m : Meaning) (memory : List ℕ) → (said result, world_of self.new memory m) ≡ image_step (world_of self.old memory m) transport (image_of (record_of header.now)) }
+        ensures world { (m : Meaning) (memory : List ℕ) → (said result, world_of self.new memory m) ≡ image_step (world_of self.old memory m) transport (image_of (record_of header.now)) }
+        ensures refused { Stays (said result) self.old self.new }
     {
         let versioned = Versioned {
             name: header.name,

@@ -1,10 +1,12 @@
 // Time fields: the moment that one names for a setting or a reading, and readings of the clock.
-ghost use Rattle.std.specs.Prelude.{◌≡◌, ◌*◌, length, MatchResult};
+ghost use Rattle.std.specs.Prelude.{◌≡◌, ◌*◌, length, MatchResult, OnErr};
 ghost use Rattle.receiver.specs.Settings.{moment_in};
 ghost use Rattle.receiver.specs.Views.{state_of, world_of, told};
 ghost use Rattle.refusal.specs.declared.causes.Cause.TheVariants.{BodyMemoryMisfit};
 ghost use Rattle.rules.specs.Clocks.{read_to, reading_step};
+ghost use Rattle.rules.specs.Effects.{read_to_effects, reading_effects};
 ghost use Rattle.rules.specs.Headers.{receiver_fault};
+ghost use Rattle.rules.specs.Reached.{Reached};
 
 use crate::faults::{BELOW_CLOCK, MEMORY_MISFIT};
 use crate::parts::Parts;
@@ -43,7 +45,9 @@ impl Parts {
         memory: &[u8],
         moment: u64,
     ) -> Result<usize, Fault>
-        ensures { (told result, world_of self.new memory.now (D.Display.meaning display.new)) ≡ read_to moment (world_of self.old memory.now (D.Display.meaning display.old)) }
+        ensures world { (told result, world_of self.new memory.now (D.Display.meaning display.new)) ≡ read_to moment (world_of self.old memory.now (D.Display.meaning display.old)) }
+        ensures reached { Reached D.Display.told display.old (read_to_effects moment (world_of self.old memory.now (D.Display.meaning display.old))) display.new }
+        ensures refused { OnErr result ((self.new ≡ self.old) × (display.new ≡ display.old)) }
     {
         if moment < self.clock {
             return Err(BELOW_CLOCK);
@@ -58,7 +62,9 @@ impl Parts {
         memory: &[u8],
         field: &[u8],
     ) -> Result<usize, Fault>
-        ensures { (told result, world_of self.new memory.now (D.Display.meaning display.new)) ≡ reading_step (world_of self.old memory.now (D.Display.meaning display.old)) field.now }
+        ensures world { (told result, world_of self.new memory.now (D.Display.meaning display.new)) ≡ reading_step (world_of self.old memory.now (D.Display.meaning display.old)) field.now }
+        ensures reached { Reached D.Display.told display.old (reading_effects (world_of self.old memory.now (D.Display.meaning display.old)) field.now) display.new }
+        ensures refused { OnErr result ((self.new ≡ self.old) × (display.new ≡ display.old)) }
     {
         let moment = self.moment_in(memory, field)?;
         self.read_to(display, memory, moment)

@@ -2,7 +2,9 @@
 ghost use Rattle.std.specs.Prelude.{◌≡◌, ◌*◌, [], ◌∷◌, true};
 ghost use Rattle.receiver.specs.Verdicts.{verdict_of};
 ghost use Rattle.receiver.specs.Views.{state_of, world_of};
+ghost use Rattle.rules.specs.Effects.{arming_effects};
 ghost use Rattle.rules.specs.Headers.{is_held};
+ghost use Rattle.rules.specs.Reached.{Reached};
 ghost use Rattle.rules.specs.Triggers.{verdict};
 ghost use Rattle.rules.specs.Worlds.{slot_at, armed, effect_at, show_all};
 ghost use Rattle.slots.specs.Pieces.{part};
@@ -28,7 +30,8 @@ impl Parts {
 
     // Shows the slide in slot k from a moment on.
     pub(crate) fn show<D: Display>(&self, display: &mut D, memory: &[u8], k: SlotIndex, moment: u64)
-        ensures { D.Display.meaning display.new ≡ show_all (D.Display.meaning display.old) (effect_at (world_of self.now memory.now (D.Display.meaning display.old)) moment k.index ∷ []) }
+        ensures shows { D.Display.meaning display.new ≡ show_all (D.Display.meaning display.old) (effect_at (world_of self.now memory.now (D.Display.meaning display.old)) moment k.index ∷ []) }
+        ensures reached { Reached D.Display.told display.old (effect_at (world_of self.now memory.now (D.Display.meaning display.old)) moment k.index ∷ []) display.new }
     {
         let _ = display.show(self.number_at(k), moment, self.body_in(k, memory));
     }
@@ -44,6 +47,7 @@ impl Parts {
         requires { is_held (slot_at (state_of self.old) k.index) ≡ true }
         ensures answer { verdict_of result ≡ verdict self.old.clock trigger }
         ensures world { world_of self.new memory.now (D.Display.meaning display.new) ≡ armed (verdict_of result) k.index (world_of self.old memory.now (D.Display.meaning display.old)) }
+        ensures reached { Reached D.Display.told display.old (arming_effects (verdict self.old.clock trigger) k.index (world_of self.old memory.now (D.Display.meaning display.old))) display.new }
     {
         let slot = u32::from(k);
         let verdict = Verdict::at(self.clock, trigger);

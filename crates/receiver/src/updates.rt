@@ -2,8 +2,11 @@
 ghost use Rattle.std.specs.Prelude.{◌≡◌, ℕ, true, List};
 ghost use Rattle.display.specs.Meaning.{Meaning};
 ghost use Rattle.header.specs.Headers.{record_of};
+ghost use Rattle.receiver.specs.Answers.{Stays};
 ghost use Rattle.receiver.specs.Views.{state_of, world_of, said};
+ghost use Rattle.rules.specs.Effects.{update_effects};
 ghost use Rattle.rules.specs.Headers.{recategorised, update_step};
+ghost use Rattle.rules.specs.Reached.{Reached};
 ghost use Rattle.rules.specs.Worlds.{any};
 ghost use Rattle.slots.specs.Slides.{numbered};
 
@@ -35,7 +38,9 @@ impl Parts {
         memory: &[u8],
         header: &Header<'_>,
     ) -> Result<Answer, Fault>
-        ensures { (said result, world_of self.new memory.now (D.Display.meaning display.new)) ≡ update_step (world_of self.old memory.now (D.Display.meaning display.old)) (record_of header.now) }
+        ensures world { (said result, world_of self.new memory.now (D.Display.meaning display.new)) ≡ update_step (world_of self.old memory.now (D.Display.meaning display.old)) (record_of header.now) }
+        ensures reached { Reached D.Display.told display.old (update_effects (world_of self.old memory.now (D.Display.meaning display.old)) (record_of header.now)) display.new }
+        ensures refused { Stays (said result) self.old self.new × Stays (said result) display.old display.new }
     {
         let k = self.slots.find(&Named(header.name)).ok_or(NOT_HELD)?;
         let number = self.number_at(k);

@@ -1,3 +1,4 @@
 mod Stepped
 mod Clocked
 mod Going
+mod Taping

@@ -6,6 +6,7 @@ use Rattle.receiver.specs.Views.{told}
 use Rattle.refusal.specs.declared.Fault.{Fault}
 use Rattle.rules.specs.Calls.{Reply, time}
 use Rattle.rules.specs.Clocks.{setting_step, reading_step}
+use Rattle.rules.specs.Effects.{setting_effects, reading_effects, effects}
 use Rattle.rules.specs.Runs.{step}
 use Rattle.rules.specs.Worlds.{World}
 use Rattle.std.proofs.lemmas.Bool.{cond-true, cond-false, eq-eqb, ne_eqb}
@@ -28,3 +29,13 @@ module _ (w : World) where
 
   pub read : (xs : List ℕ) (r : Result ℕ Fault) (v : World) → 0 < w.state.clock → (told r, v) ≡ reading_step w xs → (reply_of (Counted r), v) ≡ step w (time xs)
   read xs r v h e = ap (λ (y : Reply). (y, v)) (counted_is r) ∙ step_reading xs (told r, v) h e
+
+  -- and so is what takes effect with it
+  pub reading_is : (xs : List ℕ) → 0 < w.state.clock → reading_effects w xs ≡ effects w (time xs)
+  unfolding effects
+  reading_is xs h =
+      sym (cond-false (eqb w.state.clock 0) (setting_effects w xs) (reading_effects w xs) (ne_eqb w.state.clock 0 (λ q. omega arith)))
+
+  pub setting_is : (xs : List ℕ) → w.state.clock ≡ 0 → setting_effects w xs ≡ effects w (time xs)
+  unfolding effects
+  setting_is xs h = sym (cond-true (eqb w.state.clock 0) (setting_effects w xs) (reading_effects w xs) (eq-eqb w.state.clock 0 h))

@@ -4,3 +4,4 @@
 pub mod ended;
 pub mod replays;
 mod steps;
+pub mod tapes;

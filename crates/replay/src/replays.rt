@@ -2,7 +2,10 @@
 ghost use Rattle.std.specs.Prelude.{◌≡◌, ◌<◌, [], map, IfOk, OnOk};
 ghost use Rattle.calls.specs.Plain.{call_of, reply_of};
 ghost use Rattle.receiver.specs.Receivers.{world};
-ghost use Rattle.replay.specs.Ends.{Ran, Replays, world_at_end};
+ghost use Rattle.replay.specs.Ends.{Ran, Replays, display_in, world_at_end};
+ghost use Rattle.rules.specs.Effects.{all_effects};
+ghost use Rattle.rules.specs.Laws.{account};
+ghost use Rattle.rules.specs.Reached.{Reached};
 
 use crate::ended::Ended;
 use crate::steps::{ask, run_one};
@@ -30,7 +33,8 @@ fn run_on<D: Display>(
     said: &mut Vec<Reply>,
 ) -> Result<(), AllocError>
     requires { 0 < receiver.old.parts.clock }
-    ensures { OnOk result (Ran (world D.Display.meaning receiver.old memory.old) (map call_of calls.now) (map reply_of said.old.items) (map reply_of said.new.items) (world D.Display.meaning receiver.new memory.new)) }
+    ensures ran { OnOk result (Ran (world D.Display.meaning receiver.old memory.old) (map call_of calls.now) (map reply_of said.old.items) (map reply_of said.new.items) (world D.Display.meaning receiver.new memory.new)) }
+    ensures shows { OnOk result (Reached D.Display.told receiver.old.display (all_effects (world D.Display.meaning receiver.old memory.old) (map call_of calls.now)) receiver.new.display) }
 {
     for call in calls {
         said.push(run_one(heap, receiver, memory, call)?)?;
@@ -47,7 +51,8 @@ fn run_unset<D: Display + Drop>(
     calls: &[Call<'_>],
 ) -> Result<Replayed<D>, AllocError>
     requires { opened.parts.clock ≡ 0 }
-    ensures { IfOk result (λ x. Ran (world D.Display.meaning opened memory.old) (map call_of calls.now) [] (map reply_of x.replies.items) (world_at_end D.Display.meaning x.receiver memory.new)) }
+    ensures ran { IfOk result (λ x. Ran (world D.Display.meaning opened memory.old) (map call_of calls.now) [] (map reply_of x.replies.items) (world_at_end D.Display.meaning x.receiver memory.new)) }
+    ensures shows { IfOk result (λ x. Reached D.Display.told opened.display (all_effects (world D.Display.meaning opened memory.old) (map call_of calls.now)) (display_in x.receiver)) }
 {
     let mut replies = Vec::with_capacity(heap, calls.len())?;
     let mut receiver = opened;
@@ -83,7 +88,8 @@ pub fn replay<D: Display + Drop>(
     memory: &mut [u8],
     calls: &[Call<'_>],
 ) -> Result<Replayed<D>, AllocError>
-    ensures { IfOk result (λ x. Replays (D.Display.meaning display) slot_size memory.old (map call_of calls.now) (map reply_of x.replies.items) (world_at_end D.Display.meaning x.receiver memory.new)) }
+    ensures replays { IfOk result (λ x. Replays (D.Display.meaning display) slot_size memory.old (map call_of calls.now) (map reply_of x.replies.items) (world_at_end D.Display.meaning x.receiver memory.new)) }
+    ensures shows { IfOk result (λ x. Reached D.Display.told display (account (D.Display.meaning display) slot_size memory.old (map call_of calls.now)).history (display_in x.receiver)) }
 {
     run_unset(heap, Receiver::open(display, slot_size), memory, calls)
 }

@@ -1,8 +1,10 @@
 // One call of a replay.
-ghost use Rattle.std.specs.Prelude.{◌≡◌, ◌<◌, IfOk};
+ghost use Rattle.std.specs.Prelude.{◌≡◌, ◌<◌, IfOk, OnOk};
 ghost use Rattle.calls.specs.Plain.{call_of, reply_of};
 ghost use Rattle.receiver.specs.Receivers.{world};
 ghost use Rattle.replay.specs.Ends.{NoTime};
+ghost use Rattle.rules.specs.Effects.{effects};
+ghost use Rattle.rules.specs.Reached.{Reached};
 ghost use Rattle.rules.specs.Runs.{step};
 
 use calls::{Call, Reply};
@@ -29,7 +31,7 @@ fn body<D: Display, P>(
 }
 
 // The reply to a call that is no time field, in every phase.
-#[tactic(auto, unfolding(rules::specs::Runs::step))]
+#[tactic(auto, unfolding(rules::specs::Runs::step, rules::specs::Effects::effects))]
 pub(crate) fn ask<D: Display, P>(
     heap: Global,
     receiver: &mut Receiver<D, P>,
@@ -37,7 +39,8 @@ pub(crate) fn ask<D: Display, P>(
     call: &Call<'_>,
 ) -> Result<Reply, AllocError>
     requires { NoTime call.now }
-    ensures { IfOk result (λ y. (reply_of y, world D.Display.meaning receiver.new memory.new) ≡ step (world D.Display.meaning receiver.old memory.old) (call_of call.now)) }
+    ensures replied { IfOk result (λ y. (reply_of y, world D.Display.meaning receiver.new memory.new) ≡ step (world D.Display.meaning receiver.old memory.old) (call_of call.now)) }
+    ensures shows { OnOk result (Reached D.Display.told receiver.old.display (effects (world D.Display.meaning receiver.old memory.old) (call_of call.now)) receiver.new.display) }
 {
     match call {
         Call::Header { transport, bytes } => {
@@ -62,7 +65,8 @@ pub(crate) fn run_one<D: Display>(
     call: &Call<'_>,
 ) -> Result<Reply, AllocError>
     requires { 0 < (world D.Display.meaning receiver.old memory.old).state.clock }
-    ensures { IfOk result (λ y. (reply_of y, world D.Display.meaning receiver.new memory.new) ≡ step (world D.Display.meaning receiver.old memory.old) (call_of call.now)) }
+    ensures replied { IfOk result (λ y. (reply_of y, world D.Display.meaning receiver.new memory.new) ≡ step (world D.Display.meaning receiver.old memory.old) (call_of call.now)) }
+    ensures shows { OnOk result (Reached D.Display.told receiver.old.display (effects (world D.Display.meaning receiver.old memory.old) (call_of call.now)) receiver.new.display) }
 {
     match call {
         Call::Time { bytes } => Ok(Reply::Counted(receiver.read(memory, bytes))),

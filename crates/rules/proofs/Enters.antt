@@ -1,5 +1,5 @@
 -- The ledger follows the receiver through every call.
-use Rattle.std.proofs.Common.{◌≡◌, ℕ, zero, suc, ◌+◌, ◌-◌, ◌*◌, ◌^◌, ◌<◌, ◌≤◌, Bool, true, false, cond, not, ◌||◌, eqb, ltb, leb, List, [], ◌∷◌, length, get_or, take, drop, set, Some, None, Ok, Err, filter, Option, Result, sym, refl, ap, ◌∙◌, subst, subst₂, inl, inr, arith}
+use Rattle.std.proofs.Common.{◌≡◌, ℕ, zero, suc, ◌+◌, ◌-◌, ◌*◌, ◌^◌, ◌<◌, ◌≤◌, Bool, true, false, cond, not, ◌||◌, eqb, ltb, leb, List, [], ◌∷◌, ◌++◌, length, get_or, take, drop, set, Some, None, Ok, Err, filter, Option, Result, sym, refl, ap, ◌∙◌, subst, subst₂, inl, inr, arith}
 use mathlib.Core.Path.{subst₃, fun_ext}
 use lib.Bits.{bit_or}
 use Rattle.display.specs.Meaning.{Meaning, Keeps}
@@ -25,6 +25,7 @@ use Rattle.refusal.specs.declared.causes.Cause.TheVariants.{HeaderCut}
 use Rattle.rules.specs.Assembly.{put, received, filed, told_filing, on_landing, segment_of, segment_step}
 use Rattle.rules.specs.Calls.{Call, header, segment, time, find_name, next_place, body_of, card, Reply, answered, counted}
 use Rattle.rules.specs.Clocks.{prepared, expired, tick, walk, walked, set_to, on_setting, on_reading, setting_step, reading_step, time_step}
+use Rattle.rules.specs.Effects.{filed_effects, tick_effects, walk_effects}
 use Rattle.rules.specs.Headers.{slot_for, begun, image_step, told_update, recategorised, update_step, by_kind, on_header, header_step, idle}
 use Rattle.rules.specs.Ledgers.{Ledger, Known, body_in, leave, happen, instant, pass, start, arming, noted, kept, with_piece, filed_in, said, on_said, known_from, on_answer, on_counted, moved_to, entered, blank, ledger}
 use Rattle.rules.specs.Runs.{opened, after, replies, step}
@@ -42,11 +43,11 @@ use Rattle.slots.specs.Slides.{Slot, free, arriving, held, Object, Slide, arriva
 use Rattle.slots.specs.declared.progress.Landing.{Landing}
 use Rattle.slots.specs.declared.progress.Landing.TheVariants.{At}
 use Rattle.slots.specs.declared.progress.Segment.{Segment}
-use Rattle.std.proofs.lemmas.List.{drop-take, length-set, get_or-set_same, get_or-set_other}
+use Rattle.std.proofs.lemmas.List.{append-nil, append_assoc, drop-take, length-set, get_or-set_same, get_or-set_other}
 use Rattle.std.proofs.lemmas.Bool.{cond_both, cases_lt, eqb-true, eqb-false, leb-true, ltb-false, le-leb, ne_eqb, eq-eqb, and_parts, or_parts, both_ways, not-true}
 use Rattle.std.specs.Result.{result_ok}
 use Rattle.rules.proofs.Finds.{found_at, on_some_both, on_arriving_both}
-use Rattle.rules.proofs.Follows.{newest, Stands, Comes, Knows, Follows, timed, vacated, fired, later_only, categories_changed, arms}
+use Rattle.rules.proofs.Follows.{newest, Stands, Comes, Knows, Follows, timed, vacated, fired, later_only, categories_changed, arms, arming_told, due_told}
 use Rattle.rules.proofs.Pairs.{Both, none, more}
 use Rattle.rules.proofs.Passes.{getD_vacate}
 use Rattle.slots.proofs.Pieces.{Piece, Pieces, Fits, fit, tight_inside, next_piece, added, completed}
@@ -207,7 +208,7 @@ module _ (m : Meaning) (keeps : Keeps m) where
             go (held y) ok = ok.1
 
     -- a segment that fits is taken
-    segments : (k : ℕ) (o : Object) → slot_at s k ≡ arriving o → k < length s.slots → (n : ℕ) (last : Bool) (bs : List ℕ) → n < 64 → 0 < length bs → has n o.progress.taken ≡ false → fits o.progress.piece o.progress.size n last (length bs) ≡ true → Follows m (received k o (segment_of n last bs) (offset o.progress.size n last (length bs)) bs w) (kept o.number n bs l) × (complete (grown o.progress (segment_of n last bs)) ≡ true → body_in (with_piece n bs (l.known o.number)) ≡ part (k * S) o.progress.size (pasted w.memory (k * S + offset o.progress.size n last (length bs)) bs))
+    pub segments : (k : ℕ) (o : Object) → slot_at s k ≡ arriving o → k < length s.slots → (n : ℕ) (last : Bool) (bs : List ℕ) → n < 64 → 0 < length bs → has n o.progress.taken ≡ false → fits o.progress.piece o.progress.size n last (length bs) ≡ true → Follows m (received k o (segment_of n last bs) (offset o.progress.size n last (length bs)) bs w) (kept o.number n bs l) × (complete (grown o.progress (segment_of n last bs)) ≡ true → body_in (with_piece n bs (l.known o.number)) ≡ part (k * S) o.progress.size (pasted w.memory (k * S + offset o.progress.size n last (length bs)) bs))
     unfolding body_in
     segments k o i lt n last bs small some new ok =
         let C = coming k o i in
@@ -264,7 +265,7 @@ module _ (m : Meaning) (keeps : Keeps m) where
         moved C F j t (Some p) e = sym (C.sized p e) ∙ F.same p e
 
   -- a body that is all there is filed: the held slide of its name leaves
-  files : (w : World) (l : Ledger) → Sound w.state → Follows m w l → (k : ℕ) (o : Object) → slot_at w.state k ≡ arriving o → k < length w.state.slots → body_in (l.known o.number) ≡ part (k * w.state.room) o.progress.size w.memory → Follows m (with_state (put k (held (slide_of o)) (vacate (named o.image.name) w.state)) w) (leave (λ y. same_name y.name o.image.name) l)
+  pub files : (w : World) (l : Ledger) → Sound w.state → Follows m w l → (k : ℕ) (o : Object) → slot_at w.state k ≡ arriving o → k < length w.state.slots → body_in (l.known o.number) ≡ part (k * w.state.room) o.progress.size w.memory → Follows m (with_state (put k (held (slide_of o)) (vacate (named o.image.name) w.state)) w) (leave (λ y. same_name y.name o.image.name) l)
   files w l sound h k o i lt b =
       let s : State = w.state in
       let S : ℕ = s.room in
@@ -290,12 +291,10 @@ module _ (m : Meaning) (keeps : Keeps m) where
       }) in
       subst (λ z. Follows m (with_state (put k (held (slide_of o)) u) w) z) (noted_same N l') x
 
-  -- and its trigger is armed
-  filings : (w : World) (l : Ledger) → Sound w.state → Follows m w l → (k : ℕ) (o : Object) → slot_at w.state k ≡ arriving o → k < length w.state.slots → body_in (l.known o.number) ≡ part (k * w.state.room) o.progress.size w.memory → Follows m (filed k o w) (filed_in o.number l)
-  filings w l sound h k o i lt b =
+  -- and its category is set
+  pub filing : (w : World) (l : Ledger) → Sound w.state → Follows m w l → (k : ℕ) (o : Object) → slot_at w.state k ≡ arriving o → k < length w.state.slots → body_in (l.known o.number) ≡ part (k * w.state.room) o.progress.size w.memory → let v' : World = categorised o.image.category o.number (with_state (put k (held (slide_of o)) (vacate (named o.image.name) w.state)) w) in Follows m v' (leave (λ y. same_name y.name o.image.name) l) × Sound v'.state × (slot_at v'.state k ≡ held (slide_of o))
+  filing w l sound h k o i lt b =
       let s : State = w.state in
-      let C = coming w l sound h k o i in
-      let N : ℕ = o.number in
       let a : NameRecord = o.image.name in
       let t : State = put k (held (slide_of o)) (vacate (named a) s) in
       let v : World = with_state t w in
@@ -304,12 +303,31 @@ module _ (m : Meaning) (keeps : Keeps m) where
       let sound' : Sound t = sound_filed k o s i sound in
       let lt' : k < length (vacate (named a) s).slots = omega (arith, sound.twelve, (sound_vacate (named a) s sound).twelve) in
       let j : slot_at t k ≡ held (slide_of o) = get_or-set_same (vacate (named a) s).slots k (held (slide_of o)) free lt' in
-      let c : Option Category = o.image.category in
-      let v' : World = categorised c N v in
-      let g' : Follows m v' l' = categories_changed m keeps v l' sound' g c N in
-      let sound'' : Sound v'.state = sound_categorised c k v (slide_of o) j sound' in
-      let z = arms m keeps v' l' sound'' g' (verdict s.clock o.image.trigger) k (slide_of o) j (λ n q. timed s.clock o.image.trigger n C.timely q) in
+      (categories_changed m keeps v l' sound' g o.image.category o.number, sound_categorised o.image.category k v (slide_of o) j sound', j)
+
+  -- and its trigger is armed
+  filings : (w : World) (l : Ledger) → Sound w.state → Follows m w l → (k : ℕ) (o : Object) → slot_at w.state k ≡ arriving o → k < length w.state.slots → body_in (l.known o.number) ≡ part (k * w.state.room) o.progress.size w.memory → Follows m (filed k o w) (filed_in o.number l)
+  filings w l sound h k o i lt b =
+      let s : State = w.state in
+      let C = coming w l sound h k o i in
+      let N : ℕ = o.number in
+      let r = filing w l sound h k o i lt b in
+      let v' : World = categorised o.image.category N (with_state (put k (held (slide_of o)) (vacate (named o.image.name) s)) w) in
+      let l' : Ledger = leave (λ y. same_name y.name o.image.name) l in
+      let z = arms m keeps v' l' r.1 r.0 (verdict s.clock o.image.trigger) k (slide_of o) r.2 (λ n q. timed s.clock o.image.trigger n C.timely q) in
       let P : ℕ → NameRecord → Option Time → Type 0 = λ x b r. Follows m (filed k o w) (arming (verdict x r) N (leave (λ y. same_name y.name b) l)) in
+      subst₃ P (sym h.clock) (sym C.name) (sym C.trigger) z
+
+  pub filing_told : (w : World) (l : Ledger) → Sound w.state → Follows m w l → (k : ℕ) (o : Object) → slot_at w.state k ≡ arriving o → k < length w.state.slots → body_in (l.known o.number) ≡ part (k * w.state.room) o.progress.size w.memory → (filed_in o.number l).history ≡ l.history ++ filed_effects k o w
+  filing_told w l sound h k o i lt b =
+      let s : State = w.state in
+      let C = coming w l sound h k o i in
+      let N : ℕ = o.number in
+      let r = filing w l sound h k o i lt b in
+      let v' : World = categorised o.image.category N (with_state (put k (held (slide_of o)) (vacate (named o.image.name) s)) w) in
+      let l' : Ledger = leave (λ y. same_name y.name o.image.name) l in
+      let z = arming_told m keeps v' l' r.1 r.0 (verdict s.clock o.image.trigger) k (slide_of o) r.2 in
+      let P : ℕ → NameRecord → Option Time → Type 0 = λ x b r. (arming (verdict x r) N (leave (λ y. same_name y.name b) l)).history ≡ l.history ++ filed_effects k o w in
       subst₃ P (sym h.clock) (sym C.name) (sym C.trigger) z
 
   -- one moment after the other
@@ -327,6 +345,20 @@ module _ (m : Meaning) (keeps : Keeps m) where
       let P : ℕ → Type 0 = λ x. Follows m (tick u) (happen (suc x) (leave (λ y. passed (suc x) y.expire) k)) in
       subst P (sym g.clock) (fired m keeps (expired t u) (leave (λ y. passed t y.expire) k) (sound_vacate (ends t) u.state sound') e t (omega (arith, z)))
 
+  pub ticks_told : (n : ℕ) (w : World) (l : Ledger) → w.state.clock + n ≤ newest → Sound w.state → Follows m w l → (pass n l).history ≡ l.history ++ walk_effects n w
+  unfolding tick_effects instant
+  ticks_told zero w l ok sound h = sym (append-nil l.history)
+  ticks_told (suc n) w l ok sound h =
+      let u : World = walk n w in
+      let k : Ledger = pass n l in
+      let g : Follows m u k = ticks n w l (omega arith) sound h in
+      let sound' : Sound u.state = sound_walk n w sound in
+      let t : ℕ = suc u.state.clock in
+      let e : Follows m (expired t u) (leave (λ y. passed t y.expire) k) = vacated m keeps u k sound' g (ends t) (λ y. passed t y.expire) (λ x y p q. ap (passed t) (sym q)) in
+      let P : ℕ → Type 0 = λ x. (happen (suc x) (leave (λ y. passed (suc x) y.expire) k)).history ≡ k.history ++ tick_effects u in
+      subst P (sym g.clock) (due_told m keeps (expired t u) (leave (λ y. passed t y.expire) k) (sound_vacate (ends t) u.state sound') e t)
+      ∙ (ap (λ es. es ++ tick_effects u) (ticks_told n w l (omega arith) sound h) ∙ append_assoc l.history (walk_effects n w) (tick_effects u))
+
   -- a call is followed by its answer
   abbrev Goes : Ledger → Call → Reply × World → Type 0
   Goes l c o = Follows m o.1 (entered l c o.0)
@@ -343,16 +375,16 @@ module _ (m : Meaning) (keeps : Keeps m) where
   on_told_update late n w l p q h = h
   on_told_update (wait t) n w l p q h = h
 
-  recategorises : (c : Option Category) (n : ℕ) (w : World) (l : Ledger) → Sound w.state → Follows m w l → Follows m (recategorised c n w) l
+  pub recategorises : (c : Option Category) (n : ℕ) (w : World) (l : Ledger) → Sound w.state → Follows m w l → Follows m (recategorised c n w) l
   recategorises None n w l sound h = h
   recategorises (Some c) n w l sound h = categories_changed m keeps w l sound h (slides.real_category c) n
 
-  recategorised_slot : (c : Option Category) (n : ℕ) (w : World) (k : ℕ) → slot_at (recategorised c n w).state k ≡ slot_at w.state k
+  pub recategorised_slot : (c : Option Category) (n : ℕ) (w : World) (k : ℕ) → slot_at (recategorised c n w).state k ≡ slot_at w.state k
   recategorised_slot None n w k = refl
   recategorised_slot (Some c) n w k = refl
 
   -- a header says the same whatever the slot size, if it fits
-  wider : (xs : List ℕ) (a b : ℕ) (x : HeaderRecord) → a ≤ b → header_of xs a ≡ Ok x → header_of xs b ≡ Ok x
+  pub wider : (xs : List ℕ) (a b : ℕ) (x : HeaderRecord) → a ≤ b → header_of xs a ≡ Ok x → header_of xs b ≡ Ok x
   unfolding header_of
   wider xs a b x le e =
       let (l, p) = cored xs a x e in

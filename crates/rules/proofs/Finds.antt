@@ -39,3 +39,17 @@ pub on_arriving_both : {A : Type 0} (P : A → Type 0) (z : Slot) (x : A) (g : O
 on_arriving_both P free x g h i = h
 on_arriving_both P (arriving o) x g h i = i o refl
 on_arriving_both P (held y) x g h i = h
+
+-- cases of a call's outcome and of what takes effect in it
+pub cond_two : {A B : Type 0} (P : A → B → Type 0) (b : Bool) (x y : A) (u v : B) → (b ≡ true → P x u) → (b ≡ false → P y v) → P (cond b x y) (cond b u v)
+cond_two P true x y u v f g = f refl
+cond_two P false x y u v f g = g refl
+
+pub on_some_two : {A B : Type 0} (P : A → B → Type 0) (o : Option ℕ) (x : A) (g : ℕ → A) (y : B) (d : ℕ → B) → P x y → ((k : ℕ) → o ≡ Some k → P (g k) (d k)) → P (on_some o x g) (on_some o y d)
+on_some_two P None x g y d h i = h
+on_some_two P (Some k) x g y d h i = i k refl
+
+pub on_arriving_two : {A B : Type 0} (P : A → B → Type 0) (z : Slot) (x : A) (g : Object → A) (y : B) (d : Object → B) → P x y → ((o : Object) → z ≡ arriving o → P (g o) (d o)) → P (on_arriving z x g) (on_arriving z y d)
+on_arriving_two P free x g y d h i = h
+on_arriving_two P (arriving o) x g y d h i = i o refl
+on_arriving_two P (held s) x g y d h i = h

@@ -6,6 +6,7 @@ use Rattle.header.specs.Sound.{InTime}
 use Rattle.header.specs.declared.kinds.Category.{Category}
 use Rattle.moment.specs.declared.times.Time.{Time}
 use Rattle.moment.specs.declared.times.Time.TheVariants.{Now, At}
+use Rattle.rules.specs.Effects.{arming_effects, due_effects}
 use Rattle.rules.specs.Laws.{card_of, latest}
 use Rattle.rules.specs.Ledgers.{Ledger, Known, body_in, leave, effect_of, happen, cleared, arming}
 use Rattle.rules.specs.Soundness.{Sound, SlotSound}
@@ -14,7 +15,7 @@ use Rattle.rules.specs.Worlds.{State, World, slot_at, body_at, holding, with_sta
 use Rattle.slots.specs.Pieces.{part}
 use Rattle.shelf.specs.declared.entries.Entry.{Entry}
 use Rattle.slots.specs.Slides.{Slot, free, arriving, held, Object, Slide, number_in, size_in}
-use Rattle.std.proofs.lemmas.List.{length-take, length-drop}
+use Rattle.std.proofs.lemmas.List.{append-nil, length-take, length-drop}
 use Rattle.std.proofs.lemmas.Bool.{cond-false, cases_eq, ne_eqb, eq-eqb, not-true}
 use Rattle.std.specs.List.{AllByRecursion}
 use Rattle.rules.proofs.Moments.{all_append}
@@ -182,6 +183,21 @@ module _ (m : Meaning) (keeps : Keeps m) where
               ∙ ap (dressed m) (sym (latest_append m.settle m.card l.history es))),
           all_append Fine l.history es h.accepted fine',
         )
+
+    -- the history goes on with what takes effect
+    pub due_told : (t : ℕ) → (happen t l).history ≡ l.history ++ due_effects t w
+    due_told t =
+        ap (λ es. l.history ++ es)
+        (sym (both_map (λ e. effect_at w e.key e.load) (λ e. effect_of l e.key e.load)
+        (λ a b r. same_effect a.load r.slide b.load a.key b.key r.slot r.number r.when)
+        (both_kept (λ e. eqb e.key t) (λ e. eqb e.key t) (λ a b r. ap (λ x. eqb x t) r.when) (λ a b r e. r) h.waits)))
+
+    pub arming_told : (v : Verdict) (k : ℕ) (x : Slide) → slot_at s k ≡ held x → (arming v x.number l).history ≡ l.history ++ arming_effects v k w
+    arming_told nothing k x i = sym (append-nil l.history)
+    arming_told late k x i = sym (append-nil l.history)
+    arming_told effect k x i =
+        ap (λ e. l.history ++ e ∷ []) (sym (same_effect k x x.number s.clock l.clock i refl (sym h.clock)))
+    arming_told (wait t) k x i = sym (append-nil l.history)
 
     -- the triggers of a moment take effect
     pub fired : (t : ℕ) → t ≤ newest → Follows m (fire t w) (happen t l)

@@ -13,5 +13,9 @@ pub mod Choices
 pub mod Kept
 pub mod Rooms
 mod Enters
+mod Histories
+mod Outcomes
 pub mod Stand
 mod Computed
+pub mod Shots
+pub mod Reaching

@@ -42,7 +42,7 @@ pub kept_all : {X : Type 0} (p : X → Bool) (xs : List X) → AllByRecursion (�
 kept_all p [] h = refl
 kept_all p (x ∷ xs) h = rw h.0 (ap (λ ys. x ∷ ys) (kept_all p xs h.1))
 
-map_ext : {X Y : Type 0} (P : X → Type 0) (f g : X → Y) → ((x : X) → P x → f x ≡ g x) → (xs : List X) → AllByRecursion P xs → map f xs ≡ map g xs
+pub map_ext : {X Y : Type 0} (P : X → Type 0) (f g : X → Y) → ((x : X) → P x → f x ≡ g x) → (xs : List X) → AllByRecursion P xs → map f xs ≡ map g xs
 map_ext P f g i [] h = refl
 map_ext P f g i (x ∷ xs) h = ap₂ (λ y ys. y ∷ ys) (i x h.0) (map_ext P f g i xs h.1)
 
@@ -168,14 +168,14 @@ lost_twice t n (x ∷ xs) =
     push false q = refl
 
 module _ (w : World) (t : ℕ) where
-  abbrev s : State
+  abbrev pub s : State
   s = w.state
 
   -- at the moment after t
-  abbrev next : Entry ℕ → Bool
+  abbrev pub next : Entry ℕ → Bool
   next e = eqb e.key (suc t) && not (gone s e.key e)
 
-  abbrev IsLater : Entry ℕ → Type 0
+  abbrev pub IsLater : Entry ℕ → Type 0
   IsLater e = t < e.key
 
   beyond : (e : Entry ℕ) → IsLater e → next e ≡ seen s (suc t) e
@@ -185,7 +185,7 @@ module _ (w : World) (t : ℕ) where
       go (inl i) = eq-eqb e.key (suc t) i ∙ sym (le-leb e.key (suc t) (omega arith))
       go (inr n) = ne_eqb e.key (suc t) n ∙ sym (lt-leb e.key (suc t) (omega arith))
 
-  split : (es : List (Entry ℕ)) → NeverFalls (map (λ (e : Entry ℕ). e.key) es) → filter (seen s t) es ++ filter next es ≡ filter (seen s (suc t)) es
+  pub split : (es : List (Entry ℕ)) → NeverFalls (map (λ (e : Entry ℕ). e.key) es) → filter (seen s t) es ++ filter next es ≡ filter (seen s (suc t)) es
   split [] h = refl
   split (e ∷ es) h = go (cases_lt t e.key) (split es h.1)
     where
@@ -204,10 +204,10 @@ module _ (w : World) (t : ℕ) where
           (all_mono IsLater (λ v. seen s t v ≡ false) (λ v i. ap (λ b. b && not (gone s v.key v)) (lt-leb v.key t i)) (e ∷ es) all))
           ∙ kept_ext IsLater next (seen s (suc t)) beyond (e ∷ es) all
 
-  abbrev u : World
+  abbrev pub u : World
   u = passed_to t w
 
-  abbrev v : World
+  abbrev pub v : World
   v = expired (suc t) u
 
   kept_left : u.state.waiting ≡ filter (left s t) s.waiting
@@ -223,7 +223,7 @@ module _ (w : World) (t : ℕ) where
       ∙ after_cut (leb e.key t) t (slot_at s e.load))
       s.waiting)
 
-  shooting : due (suc t) v.state.waiting ≡ filter next s.waiting
+  pub shooting : due (suc t) v.state.waiting ≡ filter next s.waiting
   shooting =
       ap (due (suc t)) mid
       ∙ (kept_kept (λ e. eqb e.key (suc t)) (λ e. not (leb e.key t) && not (gone s (suc t) e)) s.waiting
@@ -236,7 +236,7 @@ module _ (w : World) (t : ℕ) where
       ∙ (kept_same _ (left s (suc t)) (λ e. still_left e.key t (gone s (suc t) e)) s.waiting
       ∙ sym (kept_kept (λ e. not (gone s (suc t) e)) (λ e. not (leb e.key (suc t))) s.waiting)))
 
-  same_shot : (e : Entry ℕ) → next e ≡ true → shot v e ≡ shot w e
+  pub same_shot : (e : Entry ℕ) → next e ≡ true → shot v e ≡ shot w e
   same_shot e h =
       let p = and_parts (eqb e.key (suc t)) (not (gone s e.key e)) h in
       let i : e.key ≡ suc t = eqb-true e.key (suc t) p.0 in
@@ -323,13 +323,13 @@ stay w h =
       display = ap (λ es. show_all w.display (map (shot w) es)) none i;
     }
 
-none_seen : (w : World) → Ready w.state → filter (seen w.state w.state.clock) w.state.waiting ≡ []
+pub none_seen : (w : World) → Ready w.state → filter (seen w.state w.state.clock) w.state.waiting ≡ []
 none_seen w h =
     let s : State = w.state in
     kept_none (seen s s.clock) s.waiting
     (all_mono (λ e. s.clock < e.key) (λ e. seen s s.clock e ≡ false) (λ e i. ap (λ b. b && not (gone s e.key e)) (lt-leb e.key s.clock i)) s.waiting h.ahead)
 
-walks : (n : ℕ) (w : World) → Ready w.state → (walk n w ≡ passed_to (w.state.clock + n) w) × (walked n w ≡ length (filter (seen w.state (w.state.clock + n)) w.state.waiting))
+pub walks : (n : ℕ) (w : World) → Ready w.state → (walk n w ≡ passed_to (w.state.clock + n) w) × (walked n w ≡ length (filter (seen w.state (w.state.clock + n)) w.state.waiting))
 walks zero w h =
     let e : w.state.clock + 0 ≡ w.state.clock = add-zero w.state.clock in (
       sym (stay w h) ∙ ap (λ x. passed_to x w) (sym e),

@@ -1,14 +1,15 @@
 -- The laws of whole runs.
-use Rattle.std.specs.Prelude.{◌≡◌, ℕ, suc, ◌+◌, ◌<◌, ◌≤◌, true, List, [], ◌∷◌, ◌++◌, map, Some, Ok, Option}
+use Rattle.std.specs.Prelude.{◌≡◌, ℕ, suc, ◌+◌, ◌<◌, ◌≤◌, true, List, [], ◌∷◌, ◌++◌, map, length, Some, Ok, Option}
 use Rattle.display.specs.Meaning.{Meaning, Card, Keeps, accepts}
 use Rattle.moment.specs.Field.{time_of}
 use Rattle.moment.specs.declared.times.Time.TheVariants.{At}
 use Rattle.rules.specs.Calls.{Call, header, segment, time, find_name, next_place, body_of, card, Reply, answered, counted, refused, found, placed, bytes, shows}
+use Rattle.rules.specs.Effects.{effects, all_effects}
 use Rattle.rules.specs.Ledgers.{Ledger, blank, ledger}
 use Rattle.rules.specs.Runs.{opened, after, replies, step}
 use Rattle.rules.specs.Soundness.{Sound}
 use Rattle.rules.specs.Triggers.{Effect}
-use Rattle.rules.specs.Worlds.{World}
+use Rattle.rules.specs.Worlds.{World, show_all}
 use Rattle.rules.specs.declared.answers.Answer.TheVariants.{Taken, Repeat, Filed, Shown, Late, Changed, Refused}
 use Rattle.std.specs.List.{AllByRecursion}
 
@@ -80,6 +81,17 @@ module _ (m : Meaning) (size : ℕ) (memory : List ℕ) where
   abbrev pub ShowsAccepted : Type 0
   ShowsAccepted = (cs : List Call) → AllByRecursion (λ x. accepts m x.number x.moment x.body ≡ true) (account cs).history
 
+  -- what took effect call by call is the history of triggers
+  abbrev pub HistoryIsEffects : Type 0
+  HistoryIsEffects = (cs : List Call) → all_effects (opened m size memory) cs ≡ (account cs).history
+
+-- what takes effect in a call is what the display shows of it, and an accepted time field answers how many that are
+abbrev pub EffectsAreShown : Type 0
+EffectsAreShown = (w : World) (c : Call) → (step w c).1.display ≡ show_all w.display (effects w c)
+
+abbrev pub CountsAreEffects : Type 0
+CountsAreEffects = (w : World) (c : Call) (n : ℕ) → (step w c).0 ≡ counted n → n ≡ length (effects w c)
+
 -- the numbers that headers were given, in order
 abbrev pub on_taken : Reply → List ℕ → List ℕ
 on_taken (answered (Taken n)) ns = n ∷ ns
@@ -131,6 +143,7 @@ pub record RunLaws (m : Meaning) (size : ℕ) (memory : List ℕ) : Type 0 where
   pub shows_accepted : ShowsAccepted m size memory
   pub all_sound : AllSound m size memory
   pub numbers_rise : NumbersRise m size memory
+  pub history_is_effects : HistoryIsEffects m size memory
 
 -- they hold for every display that keeps a display's meaning, every slot size and every memory
 abbrev pub LawsStand : Type 0

@@ -11,3 +11,5 @@ pub mod Runs
 pub mod Ledgers
 pub mod Laws
 pub mod Samples
+pub mod Reached
+pub mod Effects

@@ -1,7 +1,8 @@
 use Rattle.std.proofs.Common.{◌<◌, ◌++◌, map, drop, vec_items}
 use Rattle.calls.specs.Plain.{call_of, reply_of}
 use Rattle.receiver.specs.Receivers.{world}
-use Rattle.replay.proofs.Going.{Going}
+use Rattle.replay.proofs.Going.{Going, Leads}
+use Rattle.rules.specs.Effects.{all_effects}
 use Rattle.rules.specs.Runs.{after, replies}
 use Rattle.rules.specs.Worlds.{World}
 use Rattle.replay.proofs.replays.run_on.Given as goal
@@ -14,3 +15,4 @@ invariant-loop-call g l =
     let cs = map call_of l.calls in
     (0 < v.state.clock)
     × Going (map reply_of (vec_items l.initial.said) ++ replies w cs) (after w cs) (map reply_of (vec_items l.said)) v (map call_of (drop l.call-index l.calls))
+    × Leads g.D.Display.told (all_effects w cs) l.initial.receiver.display l.receiver.display v (map call_of (drop l.call-index l.calls))

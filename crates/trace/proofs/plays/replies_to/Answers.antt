@@ -14,4 +14,4 @@ pub returns : goal.returns
 returns c =
     let screen = c.new-panel.ensures.means ∙ ap (λ (n : ℕ). blank (min n 65536)) c.in_ok-vec.ensures.len in
     let bodies = c.as_mut_slice.ensures.value ∙ c.in_ok-memory.ensures.items_if_clones_equal (λ y h. h) in
-    IfOk-weaker c.replay.result _ _ (λ x h. h.replied ∙ (λ i. replies (opened (screen i) 4096 (bodies i)) (map call_of c.args.calls.now))) c.replay.ensures
+    IfOk-weaker c.replay.result _ _ (λ x h. h.replied ∙ (λ i. replies (opened (screen i) 4096 (bodies i)) (map call_of c.args.calls.now))) c.replay.ensures.replays

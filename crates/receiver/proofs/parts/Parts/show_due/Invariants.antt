@@ -1,5 +1,5 @@
 use Rattle.std.proofs.Common.{◌≤◌, map, length, drop, filter}
-use Rattle.receiver.proofs.Dues.{Coming}
+use Rattle.receiver.proofs.Dues.{Coming, Leads}
 use Rattle.receiver.specs.Views.{state_of, world_of}
 use Rattle.rules.specs.Passes.{seen, shot}
 use Rattle.rules.specs.Worlds.{State, World, show_all}
@@ -15,3 +15,4 @@ invariant-loop-entry g l =
     let all = filter p l.list in
     (l.count ≤ l.entry-index)
     × Coming p (shot w) (length all) (show_all m (map (shot w) all)) l.count (g.D.Display.meaning l.display) (drop l.entry-index l.list)
+    × Leads g.D.Display.told p (shot w) (map (shot w) all) l.initial.display l.display (drop l.entry-index l.list)
