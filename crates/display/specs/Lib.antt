@@ -4,3 +4,4 @@ pub mod Layering
 pub mod Frame
 pub mod Tape
 pub mod Lifted
+pub mod Lasting

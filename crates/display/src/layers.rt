@@ -2,6 +2,7 @@
 ghost use Rattle.std.specs.Prelude.{◌≡◌, ℕ, ◌+◌, ◌≤◌};
 ghost use Rattle.display.specs.Layering.{layer_over, Told, ToldBelow};
 ghost use Rattle.display.specs.Lifted.{layer_keeps};
+ghost use Rattle.display.specs.Lasting.{below_steady, layer_steady};
 
 use crate::cards::CardNumbers;
 use crate::{Display, LAST_MOMENT, SHOW_REFUSED};
@@ -64,6 +65,8 @@ impl<D: Display, S: Shift> Display for Layer<D, S> {
     ghost told = { λ l a t b n. ToldBelow D.Display.told (D.Display.meaning l.below).lag (S.Shift.most l.shift) (S.Shift.later l.shift) l.below a t b n.below × (n.shift ≡ l.shift) };
 
     ghost keeps = { λ l. layer_keeps _ _ _ (S.Shift.not_early l.shift) (S.Shift.within l.shift) (S.Shift.in_order l.shift) (S.Shift.fits l.shift) (D.Display.keeps l.below) };
+
+    ghost steady = { λ l n a t b h. layer_steady S.Shift.most S.Shift.later l.shift n.shift (D.Display.meaning l.below) (D.Display.meaning n.below) h.1 (below_steady D.Display.told D.Display.meaning D.Display.steady (S.Shift.most l.shift) (S.Shift.later l.shift) l.below n.below a t b h.0) };
 
     fn show(&mut self, accession: u32, moment: u64, body: &[u8]) -> Result<(), Fault> {
         let later = self.told(moment).ok_or(SHOW_REFUSED)?;
