@@ -1,3 +1,4 @@
 mod Heads
+mod Multiples
 mod Taped
 pub mod Shown

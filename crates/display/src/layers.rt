@@ -1,5 +1,5 @@
 // A layer: over any display, a layered one too, and a display again.
-ghost use Rattle.std.specs.Prelude.{◌≡◌, ℕ, ◌+◌, ◌≤◌};
+ghost use Rattle.std.specs.Prelude.{◌≡◌, ℕ, ◌+◌, ◌^◌, ◌<◌, ◌≤◌, SomeIff};
 ghost use Rattle.display.specs.Layering.{layer_over, Told, ToldBelow};
 ghost use Rattle.display.specs.Lifted.{layer_keeps};
 ghost use Rattle.display.specs.Lasting.{below_steady, layer_steady};
@@ -20,9 +20,9 @@ pub trait Shift {
         ensures value { result ≡ most self.now lag }
         ensures bound { result ≤ 1000 };
 
-    // The moment put off, over a display of this lag; above the last moment of any display it may be any.
-    fn later(&self, lag: u64, moment: u64) -> u64
-        ensures { moment ≤ 17592186044415 → result ≡ later self.now lag moment };
+    // The moment put off, over a display of this lag; none where 64 bits do not hold it.
+    fn later(&self, lag: u64, moment: u64) -> Option<u64>
+        ensures { SomeIff result (later self.now lag moment < 2 ^ 64) (later self.now lag moment) };
 
     ghost not_early: { (x : Self) (lag t : ℕ) → t ≤ later x lag t };
 
@@ -55,7 +55,7 @@ impl<D: Display, S: Shift> Layer<D, S> {
         if moment > LAST_MOMENT - (lag + self.shift.most(lag)) {
             return None;
         }
-        Some(self.shift.later(lag, moment))
+        self.shift.later(lag, moment)
     }
 }
 
