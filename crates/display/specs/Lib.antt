@@ -5,3 +5,4 @@ pub mod Frame
 pub mod Tape
 pub mod Lifted
 pub mod Lasting
+pub mod Taping

@@ -47,6 +47,22 @@ impl<D: Display, S: Shift> Layer<D, S> {
         Layer { below, shift }
     }
 
+    // The display below, lent.
+    pub fn below(&self) -> &D
+        ensures { result.now ≡ self.now.below }
+    {
+        &self.below
+    }
+
+    // The display below, given back; the layer is gone.
+    pub fn into_below(self) -> D
+    where
+        S: Drop,
+        ensures { result ≡ self.below }
+    {
+        self.below
+    }
+
     // The moment that the display below is told, or none above the bound of a show.
     fn told(&self, moment: u64) -> Option<u64>
         ensures { Told (D.Display.meaning self.now.below).lag (S.Shift.most self.now.shift) (S.Shift.later self.now.shift) moment result }

@@ -14,6 +14,7 @@ pub mod layers;
 pub mod panels;
 mod plain;
 pub mod settings;
+pub mod tapes;
 #[cfg(test)]
 mod tests;
 
