@@ -5,7 +5,6 @@ use Rattle.std.proofs.lemmas.List.{length-append}
 use Rattle.std.proofs.lemmas.Bool.{leb-true, leb-false, cond_both}
 use Rattle.std.proofs.lemmas.Bool.Decides.{nat_tests}
 use Rattle.packed.specs.Bits.{bytes_of}
-use Rattle.packed.specs.Parts.{pasted}
 use Rattle.packed.proofs.Overwritten.{length_pasted}
 use Rattle.display.specs.Meaning.{Meaning, Accepts, ByShow, accepts, Steady}
 use Rattle.display.specs.declared.cards.CardNumbers.{CardNumbers}
@@ -63,3 +62,9 @@ module _ {D : Type 0} (told : D → ℕ → ℕ → List ℕ → D → Type 0) (
   pub below_steady : (most : ℕ → ℕ) (later : ℕ → ℕ → ℕ) (d e : D) (a t : ℕ) (b : List ℕ) → ToldBelow told (mean d).lag most later d a t b e → Steady (mean d) (mean e)
   below_steady most later d e a t b h =
       by_below told (mean d).lag most later d e a t b h (λ k r. steady d e a (later (mean d).lag t) b r) (λ k q. (λ i. (mean (q i)).frame, λ i. (mean (q i)).lag, λ i. (mean (q i)).settle))
+
+-- a display below that a refused show leaves is left by what a layer over it refuses
+module _ {D : Type 0} (told : D → ℕ → ℕ → List ℕ → D → Type 0) (mean : D → Meaning) (unmoved : (d e : D) (a t : ℕ) (b : List ℕ) → told d a t b e → (Accepts (mean d) a t b → ⊥) → e ≡ d) where
+  pub below_unmoved : (most : ℕ → ℕ) (later : ℕ → ℕ → ℕ) (d e : D) (a t : ℕ) (b : List ℕ) → ToldBelow told (mean d).lag most later d a t b e → (Accepts (layer_over most later (mean d)) a t b → ⊥) → e ≡ d
+  below_unmoved most later d e a t b h no_show =
+      by_below told (mean d).lag most later d e a t b h (λ low r. unmoved d e a (later (mean d).lag t) b r (λ k. no_show (k.0, k.1, k.2, low))) (λ high q. q)

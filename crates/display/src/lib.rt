@@ -17,6 +17,7 @@ pub mod settings;
 pub mod tapes;
 #[cfg(test)]
 mod tests;
+pub mod unmoved;
 
 use cards::CardNumbers;
 use refusal::Fault;

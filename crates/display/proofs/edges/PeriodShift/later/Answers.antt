@@ -1,4 +1,4 @@
-use Rattle.std.proofs.Common.{rules, arith}
+use Rattle.std.proofs.Common.{rules}
 use Rattle.display.proofs.Multiples.{up_at, up_over}
 use Rattle.display.proofs.edges.PeriodShift.later.Goals as goal
 
