@@ -1,3 +1,4 @@
+mod Entries
 mod Heads
 mod Multiples
 mod Taped

@@ -6,3 +6,4 @@ pub mod Tape
 pub mod Lifted
 pub mod Lasting
 pub mod Taping
+pub mod Figures
