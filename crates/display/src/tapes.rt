@@ -48,7 +48,8 @@ impl<D: Taped, S: Shift + Drop> Taped for Layer<D, S> {
     }
 }
 
-// Shows on such a display: one entry more on the tape where the show is accepted, the very same tape where it is refused.
+// Shows on such a display: one entry more on the tape where the show is accepted, the very same tape where it
+// is refused. The card is the tape's last entry.
 pub fn show_on_tape<D: Taped>(
     display: &mut D,
     accession: u32,
@@ -58,6 +59,7 @@ pub fn show_on_tape<D: Taped>(
     ensures shows { Shows (D.Display.meaning display.old) accession moment body.now result (D.Display.meaning display.new) }
     ensures tells { D.Display.told display.old accession moment body.now display.new }
     ensures records { D.Taped.reel display.new ≡ recorded (D.Display.meaning display.old) (D.Taped.reel display.old) accession moment body.now }
+    ensures last { (D.Display.meaning display.new).card ≡ film_card (D.Taped.reel display.new).0 (D.Taped.reel display.new).1 }
 {
     display.show(accession, moment, body)
 }
