@@ -1,36 +1,25 @@
-// What a header does.
-ghost use Rattle.std.specs.Prelude.{◌≡◌};
-ghost use Rattle.receiver.specs.Answers.{Stays};
-ghost use Rattle.receiver.specs.Views.{state_of, world_of, said};
-ghost use Rattle.rules.specs.Effects.{header_effects};
-ghost use Rattle.rules.specs.Headers.{header_step};
-ghost use Rattle.rules.specs.Reached.{Reached};
+// What a header says to a receiver.
+ghost use Rattle.std.specs.Prelude.{◌≡◌, ℕ, IfOk};
+ghost use Rattle.display.specs.Meaning.{Meaning};
+ghost use Rattle.header.specs.Headers.{seen};
+ghost use Rattle.header.specs.Sound.{Sound};
+ghost use Rattle.receiver.specs.Views.{world_of};
+ghost use Rattle.rules.specs.Effects.{on_header_effects, header_effects};
+ghost use Rattle.rules.specs.Headers.{on_header, header_step};
 
 use crate::parts::Parts;
-use display::Display;
-use header::kinds::Kind;
+use header::kinds::Header;
 use header::read_header;
 use refusal::Fault;
-use rules::answers::Answer;
 
 impl Parts {
-    // Takes the header of an object that is sent under a TransportId.
-    pub(crate) fn header<D: Display>(
-        &mut self,
-        display: &mut D,
-        memory: &[u8],
-        transport: u16,
-        bytes: &[u8],
-    ) -> Result<Answer, Fault>
-        ensures world { (said result, world_of self.new memory.now (D.Display.meaning display.new)) ≡ header_step (world_of self.old memory.now (D.Display.meaning display.old)) transport bytes.now }
-        ensures reached { Reached D.Display.told display.old (header_effects (world_of self.old memory.now (D.Display.meaning display.old)) bytes.now) display.new }
-        ensures refused { Stays (said result) self.old self.new × Stays (said result) display.old display.new }
+    // What the bytes of a header say, or why they say nothing.
+    pub(crate) fn header_in<'b>(&self, memory: &[u8], bytes: &'b [u8]) -> Result<Header<'b>, Fault>
+        ensures steps { (m : Meaning) (transport : ℕ) → header_step (world_of self.now memory.now m) transport bytes.now ≡ on_header (seen result) (world_of self.now memory.now m) transport }
+        ensures tells { (m : Meaning) → header_effects (world_of self.now memory.now m) bytes.now ≡ on_header_effects (seen result) (world_of self.now memory.now m) }
+        ensures sound { IfOk (seen result) (Sound self.now.room) }
     {
         self.admit(memory)?;
-        let header = read_header(bytes, self.room)?;
-        match header.kind {
-            Kind::Image => self.image(transport, &header),
-            Kind::Update => self.update(display, memory, &header),
-        }
+        read_header(bytes, self.room)
     }
 }

@@ -8,32 +8,61 @@ ghost use Rattle.rules.specs.Effects.{header_effects, segment_effects};
 ghost use Rattle.rules.specs.Headers.{header_step};
 ghost use Rattle.rules.specs.Reached.{Reached};
 
+use crate::filings::Received;
 use crate::receivers::Receiver;
 use display::Display;
+use header::kinds::Kind;
 use rules::answers::Answer;
 use slots::bodies::Sent;
 
 impl<D: Display, P> Receiver<D, P> {
     // Takes a header that is sent under a TransportId: an image begins an object, an update changes a held slide.
+    #[tactic(auto, using(crate::proofs::Tellings::update_told))]
     pub fn header(&mut self, memory: &[u8], transport: u16, bytes: &[u8]) -> Answer
         ensures world { (result, world D.Display.meaning self.new memory.now) ≡ header_step (world D.Display.meaning self.old memory.now) transport bytes.now }
         ensures shows { Reached D.Display.told self.old.display (header_effects (world D.Display.meaning self.old memory.now) bytes.now) self.new.display }
         ensures refused { Stays result self.old self.new }
     {
-        self.parts
-            .header(&mut self.display, memory, transport, bytes)
-            .unwrap_or_else(Answer::Refused)
+        let header = match self.parts.header_in(memory, bytes) {
+            Ok(header) => header,
+            Err(fault) => return Answer::Refused(fault),
+        };
+        match header.kind {
+            Kind::Image => self
+                .parts
+                .image(transport, &header)
+                .unwrap_or_else(Answer::Refused),
+            Kind::Update => {
+                let (k, number) = match self.parts.held(header.name) {
+                    Ok(found) => found,
+                    Err(fault) => return Answer::Refused(fault),
+                };
+                self.parts.recategorise(header.category, number);
+                self.parts
+                    .arm(&mut self.display, memory, k, header.trigger)
+                    .told(number, Answer::Changed(number))
+            }
+        }
     }
 
     // Takes a segment of the object that is sent under a TransportId: its bytes go into body memory, and with the last one
     // missing the slide is filed.
+    #[tactic(auto, using(crate::proofs::Tellings::filing_told))]
     pub fn segment(&mut self, memory: &mut [u8], transport: u16, sent: &Sent<'_>) -> Answer
         ensures world { (result, world D.Display.meaning self.new memory.new) ≡ segment_step (world D.Display.meaning self.old memory.old) transport sent.now.number sent.now.last sent.now.bytes.now }
         ensures shows { Reached D.Display.told self.old.display (segment_effects (world D.Display.meaning self.old memory.old) transport sent.now.number sent.now.last sent.now.bytes.now) self.new.display }
         ensures refused { Stays result self.old self.new }
     {
-        self.parts
-            .segment(&mut self.display, memory, transport, sent)
-            .unwrap_or_else(Answer::Refused)
+        match self.parts.receive(memory, transport, sent) {
+            Err(fault) => Answer::Refused(fault),
+            Ok(Received::Again(number)) => Answer::Repeat(number),
+            Ok(Received::Part(number)) => Answer::Taken(number),
+            Ok(Received::Whole(k, arrival)) => {
+                self.parts.categorise(arrival.category, arrival.number);
+                self.parts
+                    .arm(&mut self.display, memory, k, arrival.trigger)
+                    .told(arrival.number, Answer::Filed(arrival.number))
+            }
+        }
     }
 }

@@ -1,53 +1,38 @@
-// What an update header does.
+// What an update header changes.
 ghost use Rattle.std.specs.Prelude.{◌≡◌, ℕ, true, List};
 ghost use Rattle.display.specs.Meaning.{Meaning};
-ghost use Rattle.header.specs.Headers.{record_of};
-ghost use Rattle.receiver.specs.Answers.{Stays};
-ghost use Rattle.receiver.specs.Views.{state_of, world_of, said};
-ghost use Rattle.rules.specs.Effects.{update_effects};
-ghost use Rattle.rules.specs.Headers.{recategorised, update_step};
-ghost use Rattle.rules.specs.Reached.{Reached};
+ghost use Rattle.header.specs.Finds.{name_of_label};
+ghost use Rattle.receiver.specs.Updates.{Found};
+ghost use Rattle.receiver.specs.Views.{state_of, world_of};
+ghost use Rattle.rules.specs.Headers.{recategorised};
 ghost use Rattle.rules.specs.Worlds.{any};
 ghost use Rattle.slots.specs.Slides.{numbered};
 
 use crate::faults::NOT_HELD;
 use crate::parts::Parts;
-use display::Display;
-use header::kinds::{Category, Header};
+use header::kinds::{Category, Label};
 use refusal::Fault;
-use rules::answers::Answer;
 use slots::images::real_category;
+use slots::indices::SlotIndex;
 use slots::sought::Named;
 
 impl Parts {
+    // The slot of the held slide of a name, with its accession number.
+    pub(crate) fn held(&self, name: Label<'_>) -> Result<(SlotIndex, u32), Fault>
+        ensures { Found result (name_of_label name.entry) (state_of self.now) }
+    {
+        let k = self.slots.find(&Named(name)).ok_or(NOT_HELD)?;
+        Ok((k, self.number_at(k)))
+    }
+
     // Puts a held slide into the category that an update gives, if it gives one; 00 00 means none.
-    fn recategorise(&mut self, category: Option<Category>, number: u32)
+    pub(crate) fn recategorise(&mut self, category: Option<Category>, number: u32)
         requires { any (numbered number) (state_of self.old).slots ≡ true }
-        ensures { (m : Meaning) (memory : List ℕ) → world_of self.new memory m ≡ recategorised category number (world_of self.old memory m) }
+        ensures world { (m : Meaning) (memory : List ℕ) → world_of self.new memory m ≡ recategorised category number (world_of self.old memory m) }
+        ensures slots { (state_of self.new).slots ≡ (state_of self.old).slots }
     {
         if category.is_some() {
             self.categorise(real_category(category), number);
         }
-    }
-
-    // Arms the trigger of an update for the held slide of its name, and sets its category.
-    #[tactic(auto, using(crate::proofs::Tellings::update_told))]
-    pub(crate) fn update<D: Display>(
-        &mut self,
-        display: &mut D,
-        memory: &[u8],
-        header: &Header<'_>,
-    ) -> Result<Answer, Fault>
-        ensures world { (said result, world_of self.new memory.now (D.Display.meaning display.new)) ≡ update_step (world_of self.old memory.now (D.Display.meaning display.old)) (record_of header.now) }
-        ensures reached { Reached D.Display.told display.old (update_effects (world_of self.old memory.now (D.Display.meaning display.old)) (record_of header.now)) display.new }
-        ensures refused { Stays (said result) self.old self.new × Stays (said result) display.old display.new }
-    {
-        let k = self.slots.find(&Named(header.name)).ok_or(NOT_HELD)?;
-        let number = self.number_at(k);
-        self.recategorise(header.category, number);
-        Ok(
-            self.arm(display, memory, k, header.trigger)
-                .told(number, Answer::Changed(number)),
-        )
     }
 }
