@@ -1,4 +1,4 @@
--- What one show leaves of a panel, a film and a layer: frame, lag, and how moments settle.
+-- What one show leaves of a panel, a film and a layer: frame, lag, and how moments settle; a refused one leaves all.
 use Rattle.std.specs.Prelude.{◌≡◌, ℕ, ◌+◌, ◌-◌, ◌*◌, ◌^◌, ◌<◌, ◌≤◌, Bool, true, false, min, List, ◌++◌, Option, length, nat_le, refl}
 use Rattle.std.proofs.Common.{leb, ap, ◌∙◌, arith}
 use Rattle.std.proofs.lemmas.List.{length-append}

@@ -41,6 +41,7 @@ pub struct Layer<D, S> {
 }
 
 impl<D: Display, S: Shift> Layer<D, S> {
+    // A layer over this display. It tells it nothing yet.
     pub fn new(below: D, shift: S) -> Layer<D, S>
         ensures { (result.below ≡ below) × (result.shift ≡ shift) }
     {

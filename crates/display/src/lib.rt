@@ -74,5 +74,6 @@ pub trait Display {
 
     ghost keeps: { (x : Self) → Keeps (meaning x) };
 
+    // What one show leaves as it is.
     ghost steady: { (d e : Self) (a t : ℕ) (b : List ℕ) → told d a t b e → Steady (meaning d) (meaning e) };
 }

@@ -9,8 +9,9 @@ use crate::films::Film;
 use crate::layers::{Layer, Shift};
 use refusal::Fault;
 
-// A display with a film at the bottom, of which it gives the film back. What a show writes on the tape follows from what the
-// display means: an accepted one an entry with the moment at which it really shows, a refused one nothing.
+// A display with a film at the bottom, of which it gives the film back. What a show writes on the
+// tape follows from what the display means: an accepted one an entry with the moment at which it
+// really shows, a refused one nothing.
 pub trait Taped: Display {
     // The tape's bytes, and where its last entry begins.
     ghost reel: { Self → Reel };
@@ -48,8 +49,8 @@ impl<D: Taped, S: Shift + Drop> Taped for Layer<D, S> {
     }
 }
 
-// Shows on such a display: one entry more on the tape where the show is accepted, the very same tape where it
-// is refused. The card is the tape's last entry.
+// Shows on such a display: one entry more on the tape where the show is accepted, the very same
+// tape where it is refused. The card is the tape's last entry.
 pub fn show_on_tape<D: Taped>(
     display: &mut D,
     accession: u32,

@@ -1,4 +1,4 @@
-// Displays that a refused show leaves just as they are: panel, film, and any pile of layers over them.
+// Displays that a refused show leaves just as they are: panel, film, any pile of layers over them.
 ghost use Rattle.std.specs.Prelude.{◌≡◌, ℕ, List, OnErr};
 ghost use Rattle.display.specs.Meaning.{Accepts, Shows};
 ghost use Rattle.display.specs.Lasting.{below_unmoved};
@@ -9,8 +9,8 @@ use crate::layers::{Layer, Shift};
 use crate::panels::Panel;
 use refusal::Fault;
 
-// A display that a refused show leaves in every bit, and not only in its card. Not every display is one: another might
-// count the shows that it refuses.
+// A display that a refused show leaves in every bit, and not only in its card. Not every display is
+// one: another might count the shows that it refuses.
 pub trait Unmoved: Display {
     ghost unmoved: { (d e : Self) (a t : ℕ) (b : List ℕ) → Self.told d a t b e → (Accepts (Self.meaning d) a t b → ⊥) → e ≡ d };
 }
