@@ -19,3 +19,4 @@ pub mod Stand
 mod Computed
 pub mod Shots
 pub mod Reaching
+pub mod Both
