@@ -3,7 +3,7 @@ use Rattle.std.proofs.Common.{◌≡◌, ℕ, ◌-◌, ◌≤◌, Bool, true, fa
 use Rattle.moment.specs.Field.{time_of}
 use Rattle.moment.specs.declared.times.Time.{Time}
 use Rattle.moment.specs.declared.times.Time.TheVariants.{Now, At}
-use Rattle.receiver.specs.Settings.{moment_said, moment_in, not_below, reading_in, read_by, read_shots, SetsTo, ReadsTo}
+use Rattle.receiver.specs.Settings.{moment_said, moment_in, not_below, reading_in, shots, passing, setting_pass, setting_shots, Prepares, set_by, set_shots, read_by, read_shots, SetsTo, ReadsTo}
 use Rattle.refusal.specs.declared.Fault.{Fault}
 use Rattle.refusal.specs.declared.causes.Cause.TheVariants.{BodyMemoryMisfit, ReadingBelowClock}
 use Rattle.rules.proofs.Passes.{reading}
@@ -20,49 +20,54 @@ use Rattle.rules.specs.Triggers.{Effect}
 use Rattle.rules.specs.Worlds.{World, fits_memory}
 use Rattle.std.proofs.lemmas.Bool.{leb-true}
 
--- the world in which a setting passes
-abbrev pub ready : Result ℕ Fault → World → World
-ready (Ok t) w = prepared t w
-ready (Err e) w = w
+-- a setting to t is one pass, in a world that is prepared for it
+module _ (t : ℕ) (w : World) where
+  set_pass : set_to t w ≡ setting_pass t w
+  unfolding setting_pass
+  set_pass =
+      sym (ap₂ (λ (n : ℕ) (x : World). (counted n, x)) (ap length (due_seen t w)) (setting_passes t w))
 
--- an answer with its world and its shows is what comes of a pass, or of a refusal
-module _ (r : Result ℕ Fault) (u : World) where
-  abbrev Passes : Reply × World → List Effect → Type 0
-  Passes a es = (a ≡ read_by r u) × (es ≡ read_shots r u)
+  set_due : due_effects t (prepared t w) ≡ setting_shots t w
+  unfolding setting_shots
+  set_due = sym (ap (map (shot (prepared t w))) (due_seen t w))
+
+  pub prepares : (u : World) → u ≡ prepared t w → Prepares t w u
+  unfolding setting_pass setting_shots
+  prepares u e = (sym (ap (passing t) e), sym (ap (shots t) e))
+
+-- an answer with its world and its shows is what comes of a setting, or of a reading
+module _ (w : World) (r : Result ℕ Fault) where
+  abbrev Sets : Reply × World → List Effect → Type 0
+  Sets a es = (a ≡ set_by r w) × (es ≡ set_shots r w)
+
+  abbrev Reads : Reply × World → List Effect → Type 0
+  Reads a es = (a ≡ read_by r w) × (es ≡ read_shots r w)
 
 module _ (w : World) where
-  abbrev SetPasses : Result ℕ Fault → Reply × World → List Effect → Type 0
-  SetPasses r a es = Passes r (ready r w) a es
+  sets : (b : Bool) (q : Result Time Fault) → Sets w (cond b (moment_said q) (Err (receiver_fault BodyMemoryMisfit))) (cond b (on_setting q w) (refused (receiver_fault BodyMemoryMisfit), w)) (cond b (on_setting_effects q w) [])
+  sets true (Err e) = (refl, refl)
+  sets true (Ok Now) = (refl, refl)
+  sets true (Ok (At t)) = (set_pass t w, set_due t w)
+  sets false q = (refl, refl)
 
-  set_pass : (t : ℕ) → SetPasses (Ok t) (set_to t w) (due_effects t (prepared t w))
-  set_pass t =
-      (sym (ap₂ (λ (n : ℕ) (x : World). (counted n, x)) (ap length (due_seen t w)) (setting_passes t w)), sym (ap (map (shot (prepared t w))) (due_seen t w)))
-
-  set : (b : Bool) (q : Result Time Fault) → SetPasses (cond b (moment_said q) (Err (receiver_fault BodyMemoryMisfit))) (cond b (on_setting q w) (refused (receiver_fault BodyMemoryMisfit), w)) (cond b (on_setting_effects q w) [])
-  set true (Err e) = (refl, refl)
-  set true (Ok Now) = (refl, refl)
-  set true (Ok (At t)) = set_pass t
-  set false q = (refl, refl)
-
-  read_pass : Sound w.state → (t : ℕ) (b : Bool) → nat_le w.state.clock t ≡ b → Passes (cond b (Ok t) (Err (receiver_fault ReadingBelowClock))) w (cond b (counted (walked (t - w.state.clock) w), walk (t - w.state.clock) w) (refused (receiver_fault ReadingBelowClock), w)) (cond b (walk_effects (t - w.state.clock) w) [])
-  read_pass h t true v =
+  reads_at : Sound w.state → (t : ℕ) (b : Bool) → nat_le w.state.clock t ≡ b → Reads w (cond b (Ok t) (Err (receiver_fault ReadingBelowClock))) (cond b (counted (walked (t - w.state.clock) w), walk (t - w.state.clock) w) (refused (receiver_fault ReadingBelowClock), w)) (cond b (walk_effects (t - w.state.clock) w) [])
+  reads_at h t true v =
       let le : w.state.clock ≤ t = leb-true w.state.clock t v in
       let r = reading t w (sound_ready w.state h) le in
       (ap₂ (λ (n : ℕ) (x : World). (counted n, x)) r.1 r.0, reading_shots t w (sound_ready w.state h) le)
-  read_pass h t false v = (refl, refl)
+  reads_at h t false v = (refl, refl)
 
-  read : Sound w.state → (b : Bool) (q : Result Time Fault) → Passes (not_below w.state.clock (cond b (moment_said q) (Err (receiver_fault BodyMemoryMisfit)))) w (cond b (on_reading q w) (refused (receiver_fault BodyMemoryMisfit), w)) (cond b (on_reading_effects q w) [])
-  read h true (Err e) = (refl, refl)
-  read h true (Ok Now) = (refl, refl)
-  read h true (Ok (At t)) = read_pass h t (nat_le w.state.clock t) refl
-  read h false q = (refl, refl)
+  reads : Sound w.state → (b : Bool) (q : Result Time Fault) → Reads w (not_below w.state.clock (cond b (moment_said q) (Err (receiver_fault BodyMemoryMisfit)))) (cond b (on_reading q w) (refused (receiver_fault BodyMemoryMisfit), w)) (cond b (on_reading_effects q w) [])
+  reads h true (Err e) = (refl, refl)
+  reads h true (Ok Now) = (refl, refl)
+  reads h true (Ok (At t)) = reads_at h t (nat_le w.state.clock t) refl
+  reads h false q = (refl, refl)
 
 module _ (w : World) (xs : List ℕ) where
-  pub setting_says : (r : Result ℕ Fault) (u : World) → r ≡ moment_in w.state.room w.memory xs → u ≡ ready r w → SetsTo r w u xs
+  pub setting_says : (r : Result ℕ Fault) → r ≡ moment_in w.state.room w.memory xs → SetsTo r w xs
   unfolding setting_step setting_effects
-  setting_says r u e i =
-      subst (λ (x : World). SetsTo r w x xs) (sym i) (subst (λ (r : Result ℕ Fault). SetsTo r w (ready r w) xs) (sym e) (set w (fits_memory w) (time_of xs)))
+  setting_says r e = subst (λ (r : Result ℕ Fault). SetsTo r w xs) (sym e) (sets w (fits_memory w) (time_of xs))
 
   pub reading_says : Sound w.state → (r : Result ℕ Fault) → r ≡ reading_in w.state.clock w.state.room w.memory xs → ReadsTo r w xs
   unfolding reading_step reading_effects
-  reading_says h r e = subst (λ (r : Result ℕ Fault). ReadsTo r w xs) (sym e) (read w h (fits_memory w) (time_of xs))
+  reading_says h r e = subst (λ (r : Result ℕ Fault). ReadsTo r w xs) (sym e) (reads w h (fits_memory w) (time_of xs))

@@ -13,7 +13,7 @@ use Rattle.refusal.specs.declared.Fault.{Fault}
 use Rattle.refusal.specs.declared.causes.Cause.TheVariants.{BodyMemoryMisfit, ReadingBelowClock}
 use Rattle.rules.specs.Headers.{receiver_fault}
 use Rattle.rules.specs.Calls.{Reply, counted, refused}
-use Rattle.rules.specs.Clocks.{setting_step, reading_step}
+use Rattle.rules.specs.Clocks.{prepared, setting_step, reading_step}
 use Rattle.rules.specs.Effects.{setting_effects, reading_effects}
 use Rattle.rules.specs.Passes.{seen, shot, passed_to}
 use Rattle.rules.specs.Reached.{Reached}
@@ -44,7 +44,27 @@ shots t w = map (shot w) (filter (seen w.state t) w.state.waiting)
 abbrev pub passing : ℕ → World → Reply × World
 passing t w = (counted (length (filter (seen w.state t) w.state.waiting)), passed_to t w)
 
--- what comes of a reading of a moment, or of a refused one: one pass
+-- a setting to t is a pass, once what has expired by t and earlier triggers are gone
+unfoldable pub setting_pass : ℕ → World → Reply × World
+setting_pass t w = passing t (prepared t w)
+
+unfoldable pub setting_shots : ℕ → World → List Effect
+setting_shots t w = shots t (prepared t w)
+
+-- world w has become u, in which the pass of a setting to t can be made
+abbrev pub Prepares : ℕ → World → World → Type 0
+Prepares t w u = (setting_pass t w ≡ passing t u) × (setting_shots t w ≡ shots t u)
+
+-- what comes of a setting to a moment, or of a refused one
+abbrev pub set_by : Result ℕ Fault → World → Reply × World
+set_by (Ok t) w = setting_pass t w
+set_by (Err e) w = (refused e, w)
+
+abbrev pub set_shots : Result ℕ Fault → World → List Effect
+set_shots (Ok t) w = setting_shots t w
+set_shots (Err e) w = []
+
+-- what comes of a reading of a moment, or of a refused one
 abbrev pub read_by : Result ℕ Fault → World → Reply × World
 read_by (Ok t) w = passing t w
 read_by (Err e) w = (refused e, w)
@@ -53,9 +73,9 @@ abbrev pub read_shots : Result ℕ Fault → World → List Effect
 read_shots (Ok t) w = shots t w
 read_shots (Err e) w = []
 
--- a setting in world w comes to that in world u, which w has become by then; a reading comes to it where nothing has changed
-abbrev pub SetsTo : Result ℕ Fault → World → World → List ℕ → Type 0
-SetsTo r w u field = (setting_step w field ≡ read_by r u) × (setting_effects w field ≡ read_shots r u)
+-- a field names that moment, or is so refused, for a setting and for a reading
+abbrev pub SetsTo : Result ℕ Fault → World → List ℕ → Type 0
+SetsTo r w field = (setting_step w field ≡ set_by r w) × (setting_effects w field ≡ set_shots r w)
 
 abbrev pub ReadsTo : Result ℕ Fault → World → List ℕ → Type 0
 ReadsTo r w field = (reading_step w field ≡ read_by r w) × (reading_effects w field ≡ read_shots r w)

@@ -1,7 +1,7 @@
 // The clock goes on: triggers take effect at their own moments, and what has expired goes.
-ghost use Rattle.std.specs.Prelude.{◌≡◌, OnErr, ℕ, ◌<◌, List, [], ◌∷◌, map, length, if◌then◌else◌, filter};
+ghost use Rattle.std.specs.Prelude.{◌≡◌, ℕ, ◌<◌, List, [], ◌∷◌, map, length, if◌then◌else◌, filter};
 ghost use Rattle.display.specs.Meaning.{Meaning};
-ghost use Rattle.receiver.specs.Settings.{SetsTo};
+ghost use Rattle.receiver.specs.Settings.{Prepares};
 ghost use Rattle.receiver.specs.Views.{state_of, world_of};
 ghost use Rattle.rules.specs.Passes.{seen, shot, undue, at_clock};
 ghost use Rattle.rules.specs.Reached.{Reached};
@@ -11,7 +11,6 @@ ghost use Rattle.slots.specs.Slides.{ends};
 use crate::parts::Parts;
 use crate::sieves::{After, NotBefore};
 use display::Display;
-use refusal::Fault;
 use shelf::entries::Entry;
 use slots::indices::SlotIndex;
 use slots::sought::Ending;
@@ -67,16 +66,13 @@ impl Parts {
         count
     }
 
-    // What a setting does before any trigger takes effect: what has expired by the moment of its time field goes, and earlier
-    // triggers are dropped. Answers that moment, or why there is none, and then changes nothing.
-    pub(crate) fn prepare(&mut self, memory: &[u8], field: &[u8]) -> Result<u64, Fault>
-        ensures sets { (m : Meaning) → SetsTo result (world_of self.old memory.now m) (world_of self.new memory.now m) field.now }
-        ensures refused { OnErr result (self.new ≡ self.old) }
+    // What a setting to a moment does before any trigger takes effect: what has expired by then goes, and earlier triggers
+    // are dropped.
+    pub(crate) fn prepare(&mut self, moment: u64)
+        ensures { (m : Meaning) (memory : List ℕ) → Prepares moment (world_of self.old memory m) (world_of self.new memory m) }
     {
-        let moment = self.moment_in(memory, field)?;
         self.vacate(&Ending(moment));
         self.waiting.keep(&NotBefore(moment));
-        Ok(moment)
     }
 
     // The clock comes to a moment: what was due by then is off the list, what has expired by then goes.

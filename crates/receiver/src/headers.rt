@@ -14,6 +14,7 @@ use refusal::Fault;
 
 impl Parts {
     // What the bytes of a header say, or why they say nothing.
+    #[inline]
     pub(crate) fn header_in<'b>(&self, memory: &[u8], bytes: &'b [u8]) -> Result<Header<'b>, Fault>
         ensures steps { (m : Meaning) (transport : ℕ) → header_step (world_of self.now memory.now m) transport bytes.now ≡ on_header (seen result) (world_of self.now memory.now m) transport }
         ensures tells { (m : Meaning) → header_effects (world_of self.now memory.now m) bytes.now ≡ on_header_effects (seen result) (world_of self.now memory.now m) }

@@ -77,6 +77,7 @@ impl Parts {
     }
 
     // Takes an image header: a repeat if a slide of its name and version is held, or if it arrives just so.
+    #[inline]
     pub(crate) fn image(&mut self, transport: u16, header: &Header<'_>) -> Result<Answer, Fault>
         requires { AnnouncesImage self.old.room (record_of header.now) }
         ensures world { (m : Meaning) (memory : List ℕ) → (said result, world_of self.new memory m) ≡ image_step (world_of self.old memory m) transport (image_of (record_of header.now)) }

@@ -1,16 +1,14 @@
 // What a receiver answers, and changes nothing.
 ghost use Rattle.std.specs.Prelude.{◌≡◌, ℕ, List};
-ghost use Rattle.display.specs.Meaning.{Meaning, Byte};
+ghost use Rattle.display.specs.Meaning.{Byte};
 ghost use Rattle.header.specs.Finds.{name_of_label};
 ghost use Rattle.receiver.specs.Bodies.{bytes_of};
 ghost use Rattle.receiver.specs.Receivers.{world};
-ghost use Rattle.receiver.specs.Views.{state_of, world_of};
 ghost use Rattle.rules.specs.Questions.{card_numbers, number_of_name, place_above, body_of_number};
 ghost use Rattle.shelf.specs.Kinds.{by_place};
 ghost use Rattle.shelf.specs.Places.{first_above};
 
 use crate::faults::NOT_HELD;
-use crate::parts::Parts;
 use crate::receivers::Receiver;
 use display::Display;
 use display::cards::CardNumbers;
@@ -25,32 +23,6 @@ fn above(list: &[Entry<(u8, u8)>], place: (u8, u8)) -> Option<Entry<(u8, u8)>>
     ensures { result ≡ first_above by_place place list.now }
 {
     first_above(list, list.len(), &place)
-}
-
-impl Parts {
-    // The accession number of the held slide of a name.
-    pub(crate) fn find_name(&self, name: Label<'_>) -> Option<u32>
-        ensures { (m : Meaning) (memory : List ℕ) → result ≡ number_of_name (world_of self.now memory m) (name_of_label name.entry) }
-    {
-        let k = self.slots.find(&Named(name))?;
-        Some(self.number_at(k))
-    }
-
-    // The first category place strictly above a given one, with its slide's accession number.
-    pub(crate) fn next_place(&self, place: (u8, u8)) -> Option<Entry<(u8, u8)>>
-        ensures { (m : Meaning) (memory : List ℕ) → result ≡ place_above (world_of self.now memory m) place }
-    {
-        above(self.places.list(), place)
-    }
-
-    // The body of the held slide with an accession number, as a part of body memory.
-    pub(crate) fn body<'m>(&self, accession: u32, memory: &'m [u8]) -> Result<&'m [u8], Fault>
-        ensures { (m : Meaning) → bytes_of result ≡ body_of_number (world_of self.now memory.now m) accession }
-    {
-        self.admit(memory)?;
-        let k = self.slots.find(&Numbered(accession)).ok_or(NOT_HELD)?;
-        Ok(self.body_in(k, memory))
-    }
 }
 
 impl<D: Display, P> Receiver<D, P> {
@@ -73,7 +45,8 @@ impl<D: Display, P> Receiver<D, P> {
     pub fn find_name(&self, name: Label<'_>) -> Option<u32>
         ensures { (memory : List ℕ) → result ≡ number_of_name (world D.Display.meaning self.now memory) (name_of_label name.entry) }
     {
-        self.parts.find_name(name)
+        let k = self.parts.slots.find(&Named(name))?;
+        Some(self.parts.number_at(k))
     }
 
     // The first category place strictly above a given one, with its slide's accession number. A place is a category and the
@@ -81,14 +54,20 @@ impl<D: Display, P> Receiver<D, P> {
     pub fn next_place(&self, place: (u8, u8)) -> Option<Entry<(u8, u8)>>
         ensures { (memory : List ℕ) → result ≡ place_above (world D.Display.meaning self.now memory) place }
     {
-        self.parts.next_place(place)
+        above(self.parts.places.list(), place)
     }
 
     // The body of the held slide with an accession number, as a part of body memory.
     pub fn body<'m>(&self, accession: u32, memory: &'m [u8]) -> Result<&'m [u8], Fault>
         ensures { bytes_of result ≡ body_of_number (world D.Display.meaning self.now memory.now) accession }
     {
-        self.parts.body(accession, memory)
+        self.parts.admit(memory)?;
+        let k = self
+            .parts
+            .slots
+            .find(&Numbered(accession))
+            .ok_or(NOT_HELD)?;
+        Ok(self.parts.body_in(k, memory))
     }
 
     // The size of a slot: body memory has twelve times as many bytes.

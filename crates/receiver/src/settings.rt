@@ -15,12 +15,12 @@ use refusal::Fault;
 impl<D: Display> Receiver<D, Unset> {
     // Sets the clock from a time field: what has expired by then goes, and the triggers of just that moment take effect.
     // A refused setting gives the receiver back as it was.
-    pub fn set(mut self, memory: &[u8], field: &[u8]) -> Result<Started<D>, Unmoved<D>>
+    pub fn set(self, memory: &[u8], field: &[u8]) -> Result<Started<D>, Unmoved<D>>
         ensures sets { Sets D.Display.meaning self memory.now field.now result }
         ensures shows { SetShows D.Display.meaning D.Display.told self memory.now field.now result }
     {
         // no `?`: the error takes the receiver along
-        let moment = match self.parts.prepare(memory, field) {
+        let moment = match self.parts.moment_in(memory, field) {
             Ok(moment) => moment,
             Err(fault) => {
                 return Err(Unmoved {
@@ -34,6 +34,7 @@ impl<D: Display> Receiver<D, Unset> {
             mut display,
             phase: _,
         } = self;
+        parts.prepare(moment);
         let shows = parts.show_due(&mut display, memory, moment);
         parts.pass(moment);
         let receiver = Receiver {

@@ -1,7 +1,7 @@
 // Time fields: the moment that one names for a setting or a reading.
 ghost use Rattle.std.specs.Prelude.{◌≡◌, ◌*◌, length, MatchResult};
 ghost use Rattle.display.specs.Meaning.{Meaning};
-ghost use Rattle.receiver.specs.Settings.{moment_in, reading_in, ReadsTo};
+ghost use Rattle.receiver.specs.Settings.{moment_in, reading_in, SetsTo, ReadsTo};
 ghost use Rattle.receiver.specs.Views.{world_of};
 ghost use Rattle.refusal.specs.declared.causes.Cause.TheVariants.{BodyMemoryMisfit};
 ghost use Rattle.rules.specs.Headers.{receiver_fault};
@@ -25,7 +25,8 @@ impl Parts {
 
     // The moment of a time field that sets the clock or is read, or why there is none.
     pub(crate) fn moment_in(&self, memory: &[u8], field: &[u8]) -> Result<u64, Fault>
-        ensures { result ≡ moment_in self.now.room memory.now field.now }
+        ensures value { result ≡ moment_in self.now.room memory.now field.now }
+        ensures sets { (m : Meaning) → SetsTo result (world_of self.now memory.now m) field.now }
     {
         self.admit(memory)?;
         match read_time(field)? {
