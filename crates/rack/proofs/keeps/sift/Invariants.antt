@@ -1,4 +1,4 @@
-use Rattle.rack.proofs.keeps.keep.Given as goal
+use Rattle.rack.proofs.keeps.sift.Given as goal
 use Rattle.std.proofs.lemmas.List.Filters.{FiltersInPlace}
 
 -- what passes among the entries looked at stands at the front
