@@ -34,6 +34,7 @@ impl<'a> Iterator for Lines<'a> {
 
     ghost remaining = { item_count left_of };
 
+    #[tactic(auto, using(crate::proofs::Cuts::next_line))]
     fn next(&mut self) -> Option<&'a [u8]> {
         if self.left.is_empty() {
             return None;
