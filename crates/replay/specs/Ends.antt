@@ -1,7 +1,8 @@
 -- What a replay gives: the replies and the world that the rules give, a display that was told the history of triggers, and the
 -- laws of whole runs.
-use Rattle.std.specs.Prelude.{◌≡◌, ℕ, List, ◌++◌, map, vec_items}
-use Rattle.calls.specs.Plain.{reply_of}
+use Rattle.std.specs.declared.alloc.AllocError.{AllocError}
+use Rattle.std.specs.Prelude.{◌≡◌, ℕ, List, ◌++◌, map, take, Ok, Err, Result, vec_items}
+use Rattle.calls.specs.Plain.{call_of, reply_of}
 use Rattle.calls.specs.declared.Call.{Call}
 use Rattle.calls.specs.declared.Call.TheVariants as calls
 use Rattle.display.specs.Meaning.{Meaning}
@@ -46,6 +47,11 @@ module _ {D : Type 0} (mean : D → Meaning) (told : D → ℕ → ℕ → List 
     pub replied : map reply_of (vec_items x.replies) ≡ was ++ replies w cs
     pub left : world_at_end x.receiver memory ≡ after w cs
     pub shown : Reached told d (all_effects w cs) (display_in x.receiver)
+
+  -- all of these calls ran, or the first of them up to where memory was wanting
+  abbrev pub Runs : World → D → List Call → List rules.Reply → Replayed D → Result Unit AllocError → List ℕ → Type 0
+  Runs w d cs was x (Ok u) memory = Ran w d (map call_of cs) was x memory
+  Runs w d cs was x (Err e) memory = (n : ℕ) × Ran w d (map call_of (take n cs)) was x memory
 
   -- a replay of calls over the display d, with slots of at most that size and that body memory, and body memory afterwards
   pub record Replays (d : D) (size : ℕ) (memory : List ℕ) (cs : List rules.Call) (x : Replayed D) (afterwards : List ℕ) : Type 0 where

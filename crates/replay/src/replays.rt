@@ -1,14 +1,14 @@
 // A list of calls, sent one by one to a receiver that is opened for it.
-ghost use Rattle.std.specs.Prelude.{◌≡◌, ℕ, ◌+◌, ◌<◌, ◌≤◌, length, map, take, Err, IfOk, IfErr, vec_len, vec_capacity};
+ghost use Rattle.std.specs.Prelude.{◌≡◌, ◌+◌, ◌<◌, ◌≤◌, length, map, take, IfOk, IfErr, OnOk, vec_len, vec_capacity};
 ghost use Rattle.calls.specs.Plain.{call_of, reply_of};
 ghost use Rattle.receiver.specs.Receivers.{world};
-ghost use Rattle.replay.specs.Ends.{Ran, Replays};
+ghost use Rattle.replay.specs.Ends.{Replays, Runs};
 
 use crate::ended::Ended;
 use crate::steps::{ask, run_one};
 use calls::{Call, Reply};
 use display::Display;
-use receiver::phases::Running;
+use receiver::phases::{Running, Unset};
 use receiver::receivers::Receiver;
 use std::alloc::{AllocError, Global};
 
@@ -35,39 +35,90 @@ impl<D: Drop> From<Interrupted<D>> for AllocError {
     }
 }
 
-// A replay that ends here, since memory is wanting.
-fn cut_short<D>(
-    replies: Vec<Reply>,
-    receiver: Ended<D>,
-    error: AllocError,
-) -> Result<Replayed<D>, Interrupted<D>>
-    ensures { result ≡ Err (record { replayed = record { replies = replies; receiver = receiver }; error = error }) }
-{
-    let replayed = Replayed { replies, receiver };
-    Err(Interrupted { replayed, error })
-}
-
 // Sends the calls to a running receiver, and puts the replies behind those that are there; there is room for all of them.
+// Where memory is wanting for a reply it goes no further, and that call changed nothing.
 fn run_on<D: Display>(
     heap: Global,
     mut receiver: Receiver<D, Running>,
     memory: &mut [u8],
     calls: &[Call<'_>],
     mut replies: Vec<Reply>,
-) -> Result<Replayed<D>, Interrupted<D>>
+) -> (Replayed<D>, Result<(), AllocError>)
     requires runs { 0 < receiver.parts.clock }
     requires room { vec_len replies + length calls.now ≤ vec_capacity replies }
-    ensures ran { IfOk result (λ x. Ran D.Display.meaning D.Display.told (world D.Display.meaning receiver memory.old) receiver.display (map call_of calls.now) (map reply_of replies.items) x memory.new) }
-    ensures interrupted { IfErr result (λ e. (n : ℕ) × Ran D.Display.meaning D.Display.told (world D.Display.meaning receiver memory.old) receiver.display (map call_of (take n calls.now)) (map reply_of replies.items) e.replayed memory.new) }
+    ensures { Runs D.Display.meaning D.Display.told (world D.Display.meaning receiver memory.old) receiver.display calls.now (map reply_of replies.items) result.0 result.1 memory.new }
 {
     for call in calls {
         match run_one(heap, &mut receiver, memory, call) {
             Ok(reply) => replies.push(reply).unwrap(),
-            Err(error) => return cut_short(replies, Ended::NowRunning(receiver), error),
+            Err(error) => {
+                let receiver = Ended::NowRunning(receiver);
+                return (Replayed { replies, receiver }, Err(error));
+            }
         }
     }
     let receiver = Ended::NowRunning(receiver);
-    Ok(Replayed { replies, receiver })
+    (Replayed { replies, receiver }, Ok(()))
+}
+
+// The same of a receiver that was not set: from the first accepted setting on it runs. The rest of the calls is cut off by
+// index, since the checker does not cover a loop that splits the first call off a slice and moves the receiver.
+fn run_unset<D: Display>(
+    heap: Global,
+    mut receiver: Receiver<D, Unset>,
+    memory: &mut [u8],
+    calls: &[Call<'_>],
+    mut replies: Vec<Reply>,
+) -> (Replayed<D>, Result<(), AllocError>)
+    requires unset { receiver.parts.clock ≡ 0 }
+    requires room { vec_len replies + length calls.now ≤ vec_capacity replies }
+    ensures { Runs D.Display.meaning D.Display.told (world D.Display.meaning receiver memory.old) receiver.display calls.now (map reply_of replies.items) result.0 result.1 memory.new }
+{
+    for (i, call) in calls.iter().enumerate() {
+        match call {
+            Call::Time { bytes } => match receiver.set(memory, bytes) {
+                Ok(started) => {
+                    replies.push(Reply::Counted(Ok(started.shows))).unwrap();
+                    return run_on(heap, started.receiver, memory, &calls[i + 1..], replies);
+                }
+                Err(unmoved) => {
+                    replies.push(Reply::Counted(Err(unmoved.fault))).unwrap();
+                    receiver = unmoved.receiver;
+                }
+            },
+            _ => match ask(heap, &mut receiver, memory, call) {
+                Ok(reply) => replies.push(reply).unwrap(),
+                Err(error) => {
+                    let receiver = Ended::StillUnset(receiver);
+                    return (Replayed { replies, receiver }, Err(error));
+                }
+            },
+        }
+    }
+    let receiver = Ended::StillUnset(receiver);
+    (Replayed { replies, receiver }, Ok(()))
+}
+
+// Opens a receiver and sends it the calls, up to where memory is wanting.
+fn run<D: Display>(
+    heap: Global,
+    display: D,
+    slot_size: u32,
+    memory: &mut [u8],
+    calls: &[Call<'_>],
+) -> (Replayed<D>, Result<(), AllocError>)
+    ensures all { OnOk result.1 (Replays D.Display.meaning D.Display.told display slot_size memory.old (map call_of calls.now) result.0 memory.new) }
+    ensures first { Replays D.Display.meaning D.Display.told display slot_size memory.old (take (vec_len result.0.replies) (map call_of calls.now)) result.0 memory.new }
+{
+    let receiver = Receiver::open(display, slot_size);
+    let mut replies = Vec::new(heap);
+    match replies.reserve(calls.len()) {
+        Ok(()) => run_unset(heap, receiver, memory, calls, replies),
+        Err(error) => {
+            let receiver = Ended::StillUnset(receiver);
+            (Replayed { replies, receiver }, Err(error))
+        }
+    }
 }
 
 // Opens a receiver over a display, with slots of at most that size, and sends it the calls in order: a time field sets the
@@ -83,30 +134,9 @@ pub fn replay<D: Display>(
     ensures replays { IfOk result (λ x. Replays D.Display.meaning D.Display.told display slot_size memory.old (map call_of calls.now) x memory.new) }
     ensures interrupted { IfErr result (λ e. Replays D.Display.meaning D.Display.told display slot_size memory.old (take (vec_len e.replayed.replies) (map call_of calls.now)) e.replayed memory.new) }
 {
-    let mut receiver = Receiver::open(display, slot_size);
-    // room for all replies, so that no push below fails
-    let mut replies = match Vec::with_capacity(heap, calls.len()) {
-        Ok(empty) => empty,
-        Err(error) => return cut_short(Vec::new(heap), Ended::StillUnset(receiver), error),
-    };
-    for (i, call) in calls.iter().enumerate() {
-        match call {
-            Call::Time { bytes } => match receiver.set(memory, bytes) {
-                Ok(started) => {
-                    replies.push(Reply::Counted(Ok(started.shows))).unwrap();
-                    return run_on(heap, started.receiver, memory, &calls[i + 1..], replies);
-                }
-                Err(unmoved) => {
-                    replies.push(Reply::Counted(Err(unmoved.fault))).unwrap();
-                    receiver = unmoved.receiver;
-                }
-            },
-            _ => match ask(heap, &mut receiver, memory, call) {
-                Ok(reply) => replies.push(reply).unwrap(),
-                Err(error) => return cut_short(replies, Ended::StillUnset(receiver), error),
-            },
-        }
+    let (replayed, ran) = run(heap, display, slot_size, memory, calls);
+    match ran {
+        Ok(()) => Ok(replayed),
+        Err(error) => Err(Interrupted { replayed, error }),
     }
-    let receiver = Ended::StillUnset(receiver);
-    Ok(Replayed { replies, receiver })
 }

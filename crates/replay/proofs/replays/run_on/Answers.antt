@@ -8,9 +8,8 @@ use Rattle.rules.specs.Calls.{Reply}
 use Rattle.rules.specs.Worlds.{World}
 use Rattle.replay.proofs.replays.run_on.Goals as goal
 
-pub returns-in-Err-clause-interrupted : goal.returns-in-Err-clause-interrupted
-returns-in-Err-clause-interrupted g c =
-    rw c.cut_short.ensures
+pub returns-in-Err : goal.returns-in-Err
+returns-in-Err g c =
     (c.loop-call.call-index, rw (c.in-Err.ensures.wanting.0, c.in-Err.ensures.wanting.1) c.loop-call.invariant.ran)
 
 pub loop-call-preserved : goal.loop-call-preserved

@@ -1,0 +1,14 @@
+use Rattle.std.proofs.Common.{◌≡◌, ◌+◌, ◌≤◌, length, map, take, drop, vec_items, vec_len, vec_capacity}
+use Rattle.calls.specs.Plain.{call_of, reply_of}
+use Rattle.receiver.specs.Receivers.{world}
+use Rattle.replay.specs.Ends.{Ran}
+use Rattle.replay.specs.declared.ended.Ended.TheVariants.{StillUnset}
+use Rattle.replay.proofs.replays.run_unset.Given as goal
+
+-- the clock was never set, there is room for the replies to come, and the calls so far have run
+abbrev pub invariant-loop-i : goal.invariant-loop-i
+invariant-loop-i g l = record {
+  unset : l.receiver.parts.clock ≡ 0;
+  room : vec_len l.replies + length (drop l.i l.calls) ≤ vec_capacity l.replies;
+  ran : Ran g.D.Display.meaning g.D.Display.told (world g.D.Display.meaning l.initial.receiver l.initial.memory) l.initial.receiver.display (map call_of (take l.i l.calls)) (map reply_of (vec_items l.initial.replies)) (record { replies = l.replies; receiver = StillUnset l.receiver }) l.memory;
+}
