@@ -14,7 +14,7 @@ use Rattle.refusal.specs.declared.Fault.{Fault}
 use Rattle.rules.proofs.Finds.{cond_two, on_some_two, on_arriving_two, on_some_both}
 use Rattle.rules.proofs.Passes.{show_all_append}
 use Rattle.rules.specs.Assembly.{put, received, filed, on_landing, segment_of, segment_step}
-use Rattle.rules.specs.Calls.{header, segment, group, time, find_name, next_place, body_of, card, card_byte, slot_size, Reply, answered, passed_over, counted, refused}
+use Rattle.rules.specs.Calls.{header, segment, group, time, find_name, next_place, body_of, card, card_byte, slot_size, Reply, answered, counted, refused}
 use Rattle.rules.specs.Clocks.{tick, ticked, walk, walked, on_setting, on_reading, setting_step, reading_step, time_step}
 use Rattle.rules.specs.Effects.{arming_effects, tick_effects, walk_effects, on_setting_effects, on_reading_effects, setting_effects, reading_effects, time_effects, by_kind_effects, on_header_effects, header_effects, filed_effects, landing_effects, segment_effects, on_group_effects, group_effects, effects}
 use Rattle.rules.specs.Groups.{on_group, group_step}
