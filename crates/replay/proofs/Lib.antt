@@ -2,3 +2,4 @@ mod Stepped
 mod Clocked
 mod Going
 mod Taping
+mod Filmed

@@ -12,7 +12,7 @@ use Rattle.replay.specs.declared.ended.Ended.TheVariants.{StillUnset, NowRunning
 use Rattle.replay.specs.declared.replays.Replayed.{Replayed}
 use Rattle.rules.specs.Calls as rules
 use Rattle.rules.specs.Effects.{all_effects}
-use Rattle.rules.specs.Laws.{account, ending, answers, RunLaws}
+use Rattle.rules.specs.Laws.{ShownIsHistory, ending, answers, RunLaws}
 use Rattle.rules.specs.Reached.{Reached}
 use Rattle.rules.specs.Runs.{after, replies}
 use Rattle.rules.specs.Worlds.{World}
@@ -59,7 +59,7 @@ module _ {D : Type 0} (mean : D → Meaning) (told : D → ℕ → ℕ → List 
     pub replied : map reply_of (vec_items x.replies) ≡ answers (mean d) size memory cs
     pub left : world_at_end x.receiver afterwards ≡ ending (mean d) size memory cs
     -- the display was told the history of triggers, entry by entry: in order, nothing more, nothing less, nothing twice
-    pub shown : Reached told d (account (mean d) size memory cs).history (display_in x.receiver)
+    pub shown : ShownIsHistory (mean d) size memory told cs d (display_in x.receiver)
     -- in place of any accepted reading any chain of readings will do; the card is the last entry of the history of triggers;
     -- the moments in the history, as the display settles them, never fall; and more (RunLaws)
     pub laws : RunLaws (mean d) size memory

@@ -2,6 +2,7 @@
 #![tactic(auto)]
 
 pub mod ended;
+pub mod figures;
 pub mod replays;
 mod steps;
 pub mod tapes;

@@ -20,3 +20,4 @@ pub mod Stand
 mod Computed
 pub mod Shots
 pub mod Reaching
+pub mod Both

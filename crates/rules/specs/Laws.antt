@@ -10,6 +10,7 @@ use Rattle.rules.specs.Calls.{Call, header, segment, group, time, find_name, nex
 use Rattle.rules.specs.Effects.{effects, all_effects}
 use Rattle.rules.specs.Groups.{plainly}
 use Rattle.rules.specs.Ledgers.{Ledger, blank, ledger}
+use Rattle.rules.specs.Reached.{Reached}
 use Rattle.rules.specs.Runs.{opened, after, replies, step}
 use Rattle.rules.specs.Soundness.{Sound}
 use Rattle.rules.specs.Triggers.{Effect}
@@ -84,6 +85,11 @@ module _ (m : Meaning) (size : ℕ) (memory : List ℕ) where
   -- no show is refused
   abbrev pub ShowsAccepted : Type 0
   ShowsAccepted = (cs : List Call) → AllByRecursion (λ x. accepts m x.number x.moment x.body ≡ true) (account cs).history
+
+  -- a display was told the history of triggers, entry by entry: in order, nothing more, nothing less, nothing twice; by what one
+  -- call of show makes of it
+  abbrev pub ShownIsHistory : {D : Type 0} → (D → ℕ → ℕ → List ℕ → D → Type 0) → List Call → D → D → Type 0
+  ShownIsHistory told cs d e = Reached told d (account cs).history e
 
   -- what took effect call by call is the history of triggers
   abbrev pub HistoryIsEffects : Type 0
