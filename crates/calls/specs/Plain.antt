@@ -1,9 +1,9 @@
 -- Calls and replies as the rules have them, and the refusal in a reply.
 use Rattle.std.specs.Prelude.{Some, None, Ok, Err, vec_items, Option}
 use Rattle.calls.specs.declared.Call.{Call}
-use Rattle.calls.specs.declared.Call.TheVariants.{Header, Segment, Time, FindName, NextPlace, Body, Card, CardByte, SlotSize}
+use Rattle.calls.specs.declared.Call.TheVariants.{Header, Segment, Group, Time, FindName, NextPlace, Body, Card, CardByte, SlotSize}
 use Rattle.calls.specs.declared.Reply.{Reply}
-use Rattle.calls.specs.declared.Reply.TheVariants.{Answered, Counted, Found, Placed, Bytes, Shows, Byte, Size}
+use Rattle.calls.specs.declared.Reply.TheVariants.{Answered, PassedOver, Counted, Found, Placed, Bytes, Shows, Byte, Size}
 use Rattle.header.specs.Finds.{name_of_label}
 use Rattle.refusal.specs.declared.Fault.{Fault}
 use Rattle.rules.specs.Calls as rules
@@ -13,6 +13,7 @@ use Rattle.rules.specs.declared.answers.Answer.{Answer}
 abbrev pub call_of : Call → rules.Call
 call_of (Header t xs) = rules.header t xs.now
 call_of (Segment t s) = rules.segment t s.number s.last s.bytes.now
+call_of (Group xs) = rules.group xs.now
 call_of (Time xs) = rules.time xs.now
 call_of (FindName n) = rules.find_name (name_of_label n)
 call_of (NextPlace p) = rules.next_place p
@@ -23,6 +24,7 @@ call_of SlotSize = rules.slot_size
 
 abbrev pub reply_of : Reply → rules.Reply
 reply_of (Answered a) = rules.answered a
+reply_of PassedOver = rules.passed_over
 reply_of (Counted (Ok n)) = rules.counted n
 reply_of (Counted (Err e)) = rules.refused e
 reply_of (Found n) = rules.found n
@@ -46,6 +48,7 @@ fault_in (answers.TheVariants.Refused e) = Some e
 -- the refusal in a reply
 abbrev pub fault_of : rules.Reply → Option Fault
 fault_of (rules.answered a) = fault_in a
+fault_of rules.passed_over = None
 fault_of (rules.counted n) = None
 fault_of (rules.refused e) = Some e
 fault_of (rules.found n) = None

@@ -18,6 +18,8 @@ pub enum Call<'a> {
     Header { transport: u16, bytes: &'a [u8] },
     // a segment of the object that arrives under a TransportId
     Segment { transport: u16, sent: Sent<'a> },
+    // a data group: the header or the segment that it asks for
+    Group { bytes: &'a [u8] },
     // a time field: it sets the clock until one is accepted, and is a reading after that
     Time { bytes: &'a [u8] },
     // the number of the held slide of a name
@@ -37,8 +39,10 @@ pub enum Call<'a> {
 // What a call answers.
 #[derive(Drop)]
 pub enum Reply {
-    // to a header or a segment
+    // to a header or a segment, by itself or in a data group
     Answered(Answer),
+    // to a data group that asks for neither
+    PassedOver,
     // to a setting or a reading: how many slides it showed
     Counted(Result<usize, Fault>),
     // to the question for a name

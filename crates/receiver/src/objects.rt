@@ -1,18 +1,21 @@
-// Objects come to a receiver: headers and segments. Both calls hand on to the data, each with its own arguments; body memory
-// is lent to each call and not kept.
+// Objects come to a receiver: headers and segments, each by itself or in a data group. The calls hand on to the data, each with
+// its own arguments; body memory is lent to each call and not kept.
 ghost use Rattle.std.specs.Prelude.{◌≡◌};
-ghost use Rattle.receiver.specs.Answers.{Stays};
+ghost use Rattle.receiver.specs.Answers.{GroupStays, Stays, group_reply};
 ghost use Rattle.receiver.specs.Receivers.{world};
 ghost use Rattle.rules.specs.Assembly.{segment_step};
-ghost use Rattle.rules.specs.Effects.{header_effects, segment_effects};
+ghost use Rattle.rules.specs.Effects.{group_effects, header_effects, segment_effects};
+ghost use Rattle.rules.specs.Groups.{group_step};
 ghost use Rattle.rules.specs.Headers.{header_step};
 ghost use Rattle.rules.specs.Reached.{Reached};
 
 use crate::filings::Received;
 use crate::receivers::Receiver;
+use datagroup::groups::Group;
+use datagroup::read_group;
 use display::Display;
 use header::kinds::Kind;
-use rules::answers::Answer;
+use rules::answers::{Answer, GroupAnswer};
 use slots::bodies::Sent;
 
 impl<D: Display, P> Receiver<D, P> {
@@ -63,6 +66,40 @@ impl<D: Display, P> Receiver<D, P> {
                     .arm(&mut self.display, memory, k, arrival.trigger)
                     .told(arrival.number, Answer::Filed(arrival.number))
             }
+        }
+    }
+
+    // Takes a data group: the header or the segment in it, under the TransportId in it. A group of another type is passed over.
+    #[tactic(auto, unfolding(rules::specs::Groups::group_step, rules::specs::Effects::group_effects))]
+    pub fn group(&mut self, memory: &mut [u8], bytes: &[u8]) -> GroupAnswer
+        ensures world { (group_reply result, world D.Display.meaning self.new memory.new) ≡ group_step (world D.Display.meaning self.old memory.old) bytes.now }
+        ensures shows { Reached D.Display.told self.old.display (group_effects (world D.Display.meaning self.old memory.old) bytes.now) self.new.display }
+        ensures refused { GroupStays result self.old self.new }
+    {
+        if let Err(fault) = self.parts.admit(memory) {
+            return GroupAnswer::Answered(Answer::Refused(fault));
+        }
+        match read_group(bytes) {
+            Ok(Group::Header { transport, bytes }) => {
+                GroupAnswer::Answered(self.header(memory, transport, bytes))
+            }
+            Ok(
+                Group::Segment {
+                    transport,
+                    number,
+                    last,
+                    bytes,
+                },
+            ) => {
+                let sent = Sent {
+                    number,
+                    last,
+                    bytes,
+                };
+                GroupAnswer::Answered(self.segment(memory, transport, &sent))
+            }
+            Ok(Group::Other) => GroupAnswer::PassedOver,
+            Err(fault) => GroupAnswer::Answered(Answer::Refused(fault)),
         }
     }
 }

@@ -5,13 +5,14 @@ use Rattle.calls.specs.Plain.{reply_of, fault_of}
 use Rattle.calls.specs.declared.Reply as plain
 use Rattle.display.specs.declared.cards.CardNumbers.{CardNumbers}
 use Rattle.refusal.specs.declared.Fault.{Fault}
-use Rattle.rules.specs.Calls.{Call, Reply, answered, counted, refused, found, placed, bytes, shows, byte, sized}
+use Rattle.rules.specs.Calls.{Call, Reply, answered, passed_over, counted, refused, found, placed, bytes, shows, byte, sized}
 use Rattle.std.specs.Option.{option_map}
 use Rattle.records.specs.declared.facts.Line.{Line}
 
 -- the card that a reply tells
 abbrev pub card_in : Reply → Option CardNumbers
 card_in (answered a) = None
+card_in passed_over = None
 card_in (counted n) = None
 card_in (refused e) = None
 card_in (found n) = None

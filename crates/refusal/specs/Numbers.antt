@@ -1,7 +1,7 @@
 -- The numbers of the refusals and of the layers: the only place that ties a cause or a layer to its number.
 use Rattle.std.specs.Prelude.{ℕ}
 use Rattle.refusal.specs.declared.causes.Cause.{Cause}
-use Rattle.refusal.specs.declared.causes.Cause.TheVariants.{SettingOutOfRange, ShowOutOfBounds, BodyMemoryMisfit, HeaderCut, HeaderSizeDiffers, NeitherImageNorUpdate, BodySizeMisfit, ParameterPastEnd, ParameterAgain, ParameterMalformed, NameMissing, UpdateWithoutEffect, ExpiryNotAhead, SlideNotHeld, NoSlotToUse, NotArriving, SegmentMisfit, ReadingBelowClock, RecordMalformed}
+use Rattle.refusal.specs.declared.causes.Cause.TheVariants.{SettingOutOfRange, ShowOutOfBounds, BodyMemoryMisfit, HeaderCut, HeaderSizeDiffers, NeitherImageNorUpdate, BodySizeMisfit, ParameterPastEnd, ParameterAgain, ParameterMalformed, NameMissing, UpdateWithoutEffect, ExpiryNotAhead, SlideNotHeld, NoSlotToUse, NotArriving, SegmentMisfit, ReadingBelowClock, RecordMalformed, GroupMalformed, ChecksumDiffers, HeaderInParts}
 use Rattle.refusal.specs.declared.causes.Layer as layers
 use Rattle.refusal.specs.declared.causes.Layer.{Layer}
 
@@ -25,6 +25,9 @@ number_of NotArriving = 16
 number_of SegmentMisfit = 17
 number_of ReadingBelowClock = 18
 number_of RecordMalformed = 19
+number_of GroupMalformed = 20
+number_of ChecksumDiffers = 21
+number_of HeaderInParts = 22
 
 abbrev pub layer_number : Layer → ℕ
 layer_number layers.TheVariants.TimeField = 1
@@ -33,3 +36,4 @@ layer_number layers.TheVariants.Assembly = 3
 layer_number layers.TheVariants.Receiver = 4
 layer_number layers.TheVariants.Display = 5
 layer_number layers.TheVariants.Trace = 6
+layer_number layers.TheVariants.DataGroup = 7

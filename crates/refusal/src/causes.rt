@@ -41,6 +41,12 @@ pub enum Cause {
     ReadingBelowClock = 18,
     // a trace record of no known form
     RecordMalformed = 19,
+    // a data group with a part missing, or with more or less behind its segment size than that says
+    GroupMalformed = 20,
+    // a data group whose checksum is not that of the bytes before it
+    ChecksumDiffers = 21,
+    // a data group with a header that is not segment 0 and last
+    HeaderInParts = 22,
 }
 
 // Which layer refused, lowest layer first. The discriminant is the layer's number.
@@ -52,4 +58,5 @@ pub enum Layer {
     Receiver = 4,
     Display = 5,
     Trace = 6,
+    DataGroup = 7,
 }

@@ -3,6 +3,8 @@ use Rattle.std.proofs.Common.{◌≡◌, ℕ, ◌-◌, ◌<◌, ◌≤◌, Bool,
 use Rattle.calls.specs.Plain.{call_of}
 use Rattle.calls.specs.declared.Call.{Call}
 use Rattle.calls.specs.declared.Call.TheVariants as calls
+use Rattle.datagroup.specs.Groups as groups
+use Rattle.datagroup.specs.Groups.{Group, group_of}
 use Rattle.header.proofs.Moments.{read_in_time}
 use Rattle.header.specs.Headers.{HeaderRecord, header_of}
 use Rattle.header.specs.Sound.{InTime}
@@ -20,6 +22,7 @@ use Rattle.rules.proofs.Readings.{walk_clock}
 use Rattle.rules.specs.Assembly.{on_landing, segment_of, segment_step}
 use Rattle.rules.specs.Calls.{Reply, time, counted, refused}
 use Rattle.rules.specs.Clocks.{on_setting, on_reading, setting_step, reading_step}
+use Rattle.rules.specs.Groups.{on_group, group_step}
 use Rattle.rules.specs.Headers.{slot_for, by_kind, on_header, header_step}
 use Rattle.rules.specs.Runs.{step}
 use Rattle.rules.specs.Triggers.{Verdict, nothing, effect, late, wait}
@@ -93,11 +96,23 @@ module _ (w : World) where
       (λ e. on_some_both P (first_slot (comes t) w.state.slots) _ _ (still w _) (λ k z. on_arriving_both P (slot_at w.state k) _ _ (still w _) (λ o i. landing_clock (landing o.progress (segment_of n last xs)) k o (segment_of n last xs) xs)))
       (λ e. still w _)
 
+  on_group_clock : (r : Result Group Fault) → Leaves w (on_group r w)
+  on_group_clock (Err e) = still w _
+  on_group_clock (Ok (groups.header t xs)) = record { same = (header_clock t xs).same }
+  on_group_clock (Ok (groups.segment t n last xs)) = record { same = (segment_clock t n last xs).same }
+  on_group_clock (Ok groups.other) = still w _
+
+  group_clock : (xs : List ℕ) → Leaves w (group_step w xs)
+  unfolding group_step
+  group_clock xs =
+      cond_both (fits_memory w) _ _ (λ (o : Reply × World). Leaves w o) (λ e. on_group_clock (group_of xs)) (λ e. still w _)
+
   -- a call that is no time field leaves the clock
   other_clock : (c : Call) → NoTime c → (step w (call_of c)).1.state.clock ≡ w.state.clock
   unfolding step
   other_clock (calls.Header t xs) h = (header_clock t xs.now).same
   other_clock (calls.Segment t s) h = (segment_clock t s.number s.last s.bytes.now).same
+  other_clock (calls.Group xs) h = (group_clock xs.now).same
   other_clock (calls.Time xs) h = absurd h
   other_clock (calls.FindName n) h = refl
   other_clock (calls.NextPlace p) h = refl
@@ -146,6 +161,7 @@ module _ (w : World) where
   pub running_on : (c : Call) → 0 < w.state.clock → 0 < (step w (call_of c)).1.state.clock
   running_on (calls.Header t xs) h = omega (arith, other_clock (calls.Header t xs) tt)
   running_on (calls.Segment t s) h = omega (arith, other_clock (calls.Segment t s) tt)
+  running_on (calls.Group xs) h = omega (arith, other_clock (calls.Group xs) tt)
   running_on (calls.Time xs) h = reading_on xs.now h
   running_on (calls.FindName n) h = omega (arith, other_clock (calls.FindName n) tt)
   running_on (calls.NextPlace p) h = omega (arith, other_clock (calls.NextPlace p) tt)

@@ -21,6 +21,7 @@ use Rattle.rules.specs.Worlds.{World}
 abbrev pub NoTime : Call → Type 0
 NoTime (calls.Header t xs) = Unit {0}
 NoTime (calls.Segment t s) = Unit {0}
+NoTime (calls.Group xs) = Unit {0}
 NoTime (calls.Time xs) = ⊥
 NoTime (calls.FindName n) = Unit {0}
 NoTime (calls.NextPlace p) = Unit {0}

@@ -11,6 +11,7 @@ use calls::{Call, Reply};
 use display::Display;
 use receiver::phases::Running;
 use receiver::receivers::Receiver;
+use rules::answers::GroupAnswer;
 use std::alloc::{AllocError, Global};
 
 // The reply to the question for a body. It owns a copy, and want of memory for that is an error and no reply: so a match, since
@@ -50,6 +51,10 @@ pub(crate) fn ask<D: Display, P>(
         Call::Segment { transport, sent } => {
             Ok(Reply::Answered(receiver.segment(memory, *transport, sent)))
         }
+        Call::Group { bytes } => Ok(match receiver.group(memory, bytes) {
+            GroupAnswer::Answered(answer) => Reply::Answered(answer),
+            GroupAnswer::PassedOver => Reply::PassedOver,
+        }),
         Call::Time { .. } => unreachable(),
         Call::FindName { name } => Ok(Reply::Found(receiver.find_name(*name))),
         Call::NextPlace { place } => Ok(Reply::Placed(receiver.next_place(*place))),

@@ -2,6 +2,8 @@
 use Rattle.std.proofs.Common.{◌≡◌, ℕ, zero, suc, ◌+◌, ◌-◌, ◌*◌, ◌^◌, ◌<◌, ◌≤◌, Bool, true, false, cond, not, ◌||◌, eqb, ltb, leb, List, [], ◌∷◌, ◌++◌, length, get_or, take, drop, set, Some, None, Ok, Err, filter, Option, Result, sym, refl, ap, ◌∙◌, subst, subst₂, inl, inr, arith}
 use mathlib.Core.Path.{subst₃, fun_ext}
 use lib.Bits.{bit_or}
+use Rattle.datagroup.specs.Groups as groups
+use Rattle.datagroup.specs.Groups.{Group, group_of}
 use Rattle.display.specs.Meaning.{Meaning, Keeps}
 use Rattle.header.proofs.Facts.{header_sound}
 use Rattle.header.proofs.Laws.{Passed, cored, passed_to}
@@ -21,19 +23,21 @@ use Rattle.packed.proofs.Overwritten.{length_pasted, below_pasted, above_pasted}
 use Rattle.packed.specs.Bits.{whole}
 use Rattle.packed.specs.Parts.{pasted}
 use Rattle.refusal.specs.declared.Fault.{Fault}
-use Rattle.refusal.specs.declared.causes.Cause.TheVariants.{HeaderCut}
+use Rattle.refusal.specs.declared.causes.Cause.TheVariants.{HeaderCut, BodyMemoryMisfit}
 use Rattle.rules.specs.Assembly.{put, received, filed, told_filing, on_landing, segment_of, segment_step}
-use Rattle.rules.specs.Calls.{Call, header, segment, time, find_name, next_place, body_of, card, card_byte, slot_size, Reply, answered, counted}
+use Rattle.rules.specs.Calls.{Call, header, segment, group, time, find_name, next_place, body_of, card, card_byte, slot_size, Reply, answered, counted}
 use Rattle.rules.specs.Clocks.{prepared, expired, tick, walk, walked, set_to, on_setting, on_reading, setting_step, reading_step, time_step}
 use Rattle.rules.specs.Effects.{filed_effects, tick_effects, walk_effects}
-use Rattle.rules.specs.Headers.{slot_for, begun, image_step, told_update, recategorised, update_step, by_kind, on_header, header_step, idle}
-use Rattle.rules.specs.Ledgers.{Ledger, Known, body_in, leave, happen, instant, pass, start, arming, noted, kept, with_piece, filed_in, said, on_said, known_from, on_answer, on_counted, moved_to, entered, blank, ledger}
+use Rattle.rules.specs.Groups.{on_group, group_step}
+use Rattle.rules.specs.Headers.{receiver_fault, slot_for, begun, image_step, told_update, recategorised, update_step, by_kind, on_header, header_step, idle}
+use Rattle.rules.specs.Ledgers.{Ledger, Known, body_in, leave, happen, instant, pass, start, arming, noted, kept, with_piece, filed_in, said, on_said, known_from, grouped, on_answer, on_counted, moved_to, entered, blank, ledger}
 use Rattle.rules.specs.Runs.{opened, after, replies, step}
 use Rattle.rules.specs.Soundness.{Sound, SlotSound}
 use Rattle.rules.specs.Triggers.{Verdict, nothing, effect, late, wait, verdict}
 use Rattle.rules.specs.Worlds.{State, World, slot_at, with_state, fits_memory, vacate, fire, armed, categorised}
 use Rattle.slots.specs.Pieces.{part}
 use Rattle.rules.specs.declared.answers.Answer.{Answer}
+use Rattle.rules.specs.declared.answers.Answer.TheVariants.{Refused}
 use Rattle.shelf.specs.declared.entries.Entry.{Entry}
 use Rattle.slots.proofs.Numbers.{has_none}
 use Rattle.slots.specs.Searches.{first_slot}
@@ -537,10 +541,32 @@ module _ (m : Meaning) (keeps : Keeps m) where
           (ticks (t - w.state.clock) w l (omega (arith, leb-true w.state.clock t d, ok.1)) sound h))))
           (λ d. h)
 
+  -- a data group does as the call that it asks
+  groups_on : (w : World) (l : Ledger) (xs : List ℕ) → Sound w.state → Follows m w l → Goes l (group xs) (group_step w xs)
+  unfolding entered group_step
+  groups_on w l xs sound h =
+      cond_both (fits_memory w) _ _ (Goes l (group xs)) (λ fm. go (group_of xs) refl) (λ fm. none (group_of xs))
+    where
+      none : (r : Result Group Fault) → Follows m w (grouped r (answered (Refused (receiver_fault BodyMemoryMisfit))) l)
+      none (Err e) = h
+      none (Ok (groups.header t ys)) = quiet (said ys) w l h
+      none (Ok (groups.segment t n last ys)) = h
+      none (Ok groups.other) = h
+
+      as_in : (r : Result Group Fault) (o : Reply × World) → group_of xs ≡ r → Follows m o.1 (grouped r o.0 l) → Goes l (group xs) o
+      as_in r o i f = subst (λ q. Follows m o.1 (grouped q o.0 l)) (sym i) f
+
+      go : (r : Result Group Fault) → group_of xs ≡ r → Goes l (group xs) (on_group r w)
+      go (Err e) i = as_in (Err e) _ i h
+      go (Ok (groups.header t ys)) i = as_in (Ok (groups.header t ys)) _ i (headed w l t ys sound h)
+      go (Ok (groups.segment t n last ys)) i = as_in (Ok (groups.segment t n last ys)) _ i (segmented w l t n last ys sound h)
+      go (Ok groups.other) i = as_in (Ok groups.other) _ i h
+
   pub nexts : (w : World) (l : Ledger) (c : Call) → Sound w.state → Follows m w l → Goes l c (step w c)
   unfolding step entered
   nexts w l (header t xs) sound h = headed w l t xs sound h
   nexts w l (segment t n last xs) sound h = segmented w l t n last xs sound h
+  nexts w l (group xs) sound h = groups_on w l xs sound h
   nexts w l (time xs) sound h = clocked w l xs sound h
   nexts w l (find_name n) sound h = h
   nexts w l (next_place c) sound h = h

@@ -1,5 +1,7 @@
 -- The history goes on by what takes effect, call by call.
 use Rattle.std.proofs.Common.{◌≡◌, ℕ, ◌-◌, ◌<◌, ◌^◌, Bool, true, false, ◌||◌, eqb, ltb, leb, cond, List, [], ◌∷◌, ◌++◌, length, Ok, Err, Result, sym, refl, ap, ◌∙◌, subst, subst₂, arith}
+use Rattle.datagroup.specs.Groups as groups
+use Rattle.datagroup.specs.Groups.{Group, group_of}
 use Rattle.display.specs.Meaning.{Meaning, Keeps}
 use Rattle.header.proofs.Moments.{read_in_time}
 use Rattle.header.specs.Headers.{HeaderRecord, header_of}
@@ -16,17 +18,19 @@ use Rattle.rules.proofs.Follows.{Follows, vacated, later_only, arming_told, due_
 use Rattle.rules.proofs.Kept.{sound_step, sound_recategorised, held_named}
 use Rattle.rules.proofs.Sounds.{sound_vacate, sound_filtered, sound_received}
 use Rattle.rules.specs.Assembly.{received, told_filing, on_landing, segment_of, segment_step}
-use Rattle.refusal.specs.declared.causes.Cause.TheVariants.{ReadingBelowClock}
-use Rattle.rules.specs.Calls.{Call, header, segment, time, find_name, next_place, body_of, card, card_byte, slot_size, Reply, answered, counted, refused}
+use Rattle.refusal.specs.declared.causes.Cause.TheVariants.{BodyMemoryMisfit, ReadingBelowClock}
+use Rattle.rules.specs.Calls.{Call, header, segment, group, time, find_name, next_place, body_of, card, card_byte, slot_size, Reply, answered, counted, refused}
 use Rattle.rules.specs.Clocks.{prepared, expired, walk, walked, on_setting, on_reading, setting_step, reading_step, time_step}
-use Rattle.rules.specs.Effects.{arming_effects, due_effects, on_setting_effects, on_reading_effects, setting_effects, reading_effects, time_effects, update_effects, by_kind_effects, on_header_effects, header_effects, landing_effects, segment_effects, walk_effects, effects, all_effects}
+use Rattle.rules.specs.Effects.{arming_effects, due_effects, on_setting_effects, on_reading_effects, setting_effects, reading_effects, time_effects, update_effects, by_kind_effects, on_header_effects, header_effects, landing_effects, segment_effects, on_group_effects, group_effects, walk_effects, effects, all_effects}
+use Rattle.rules.specs.Groups.{on_group, group_step}
 use Rattle.rules.specs.Headers.{receiver_fault, slot_for, image_step, told_update, recategorised, update_step, by_kind, on_header, header_step}
-use Rattle.rules.specs.Ledgers.{Ledger, Known, body_in, leave, happen, pass, start, arming, noted, kept, with_piece, said, on_said, known_from, on_answer, moved_to, entered, ledger}
+use Rattle.rules.specs.Ledgers.{Ledger, Known, body_in, leave, happen, pass, start, arming, noted, kept, with_piece, said, on_said, known_from, grouped, on_answer, moved_to, entered, ledger}
 use Rattle.rules.specs.Runs.{replies, step}
 use Rattle.rules.specs.Soundness.{Sound}
 use Rattle.rules.specs.Triggers.{Verdict, nothing, effect, late, wait, verdict, Effect}
 use Rattle.rules.specs.Worlds.{World, slot_at, fits_memory, due}
 use Rattle.rules.specs.declared.answers.Answer.{Answer}
+use Rattle.rules.specs.declared.answers.Answer.TheVariants.{Refused}
 use Rattle.slots.specs.Searches.{first_slot}
 use Rattle.slots.specs.Segments.{has, fits, offset, landing, grown, complete}
 use Rattle.slots.specs.Slides.{free, arriving, Object, with_progress, image_of, comes, named, versioned, comes_again, ends, passed, number_in}
@@ -186,10 +190,34 @@ module _ (m : Meaning) (keeps : Keeps m) where
           (ticks_told m keeps (t - w.state.clock) w l (omega (arith, leb-true w.state.clock t d, ok.1)) sound h))))
           (λ d. still l)
 
+  -- a data group does as the call that it asks
+  groups_on : (w : World) (l : Ledger) (xs : List ℕ) → Sound w.state → Follows m w l → Grew l (group_effects w xs) (entered l (group xs) (group_step w xs).0)
+  unfolding entered group_step group_effects
+  groups_on w l xs sound h =
+      cond_two (λ (o : Reply × World) (es : List Effect). Grew l es (entered l (group xs) o.0)) (fits_memory w) _ _ _ _
+      (λ fm. go (group_of xs) refl)
+      (λ fm. none (group_of xs))
+    where
+      none : (r : Result Group Fault) → Grew l [] (grouped r (answered (Refused (receiver_fault BodyMemoryMisfit))) l)
+      none (Err e) = still l
+      none (Ok (groups.header t ys)) = quiet (said ys) l
+      none (Ok (groups.segment t n last ys)) = still l
+      none (Ok groups.other) = still l
+
+      as_in : (r : Result Group Fault) (o : Reply) (es : List Effect) → group_of xs ≡ r → Grew l es (grouped r o l) → Grew l es (entered l (group xs) o)
+      as_in r o es i f = subst (λ q. Grew l es (grouped q o l)) (sym i) f
+
+      go : (r : Result Group Fault) → group_of xs ≡ r → Grew l (on_group_effects r w) (entered l (group xs) (on_group r w).0)
+      go (Err e) i = as_in (Err e) _ _ i (still l)
+      go (Ok (groups.header t ys)) i = as_in (Ok (groups.header t ys)) _ _ i (headed w l t ys sound h)
+      go (Ok (groups.segment t n last ys)) i = as_in (Ok (groups.segment t n last ys)) _ _ i (segmented w l t n last ys sound h)
+      go (Ok groups.other) i = as_in (Ok groups.other) _ _ i (still l)
+
   grows : (w : World) (l : Ledger) (c : Call) → Sound w.state → Follows m w l → Grew l (effects w c) (entered l c (step w c).0)
   unfolding step effects entered
   grows w l (header t xs) sound h = headed w l t xs sound h
   grows w l (segment t n last xs) sound h = segmented w l t n last xs sound h
+  grows w l (group xs) sound h = groups_on w l xs sound h
   grows w l (time xs) sound h = clocked w l xs sound h
   grows w l (find_name n) sound h = still l
   grows w l (next_place c) sound h = still l

@@ -1,6 +1,8 @@
 -- Every call keeps a receiver's state sound, and numbers its slides in order.
 use Rattle.std.proofs.Common.{◌≡◌, ℕ, zero, suc, ◌-◌, ◌<◌, ◌≤◌, Bool, true, false, cond, ◌||◌, eqb, ltb, leb, List, [], ◌∷◌, length, get_or, replicate, Some, None, Ok, Err, Option, Result, sym, refl, ap, ◌∙◌, subst, arith}
 use Rattle.display.specs.Meaning.{Meaning}
+use Rattle.datagroup.specs.Groups as groups
+use Rattle.datagroup.specs.Groups.{Group, group_of}
 use Rattle.header.proofs.Facts.{header_sound}
 use Rattle.header.specs.Headers.{HeaderRecord, header_of}
 use Rattle.header.specs.Names.{NameRecord}
@@ -13,10 +15,11 @@ use Rattle.moment.specs.declared.times.Time.{Time}
 use Rattle.moment.specs.declared.times.Time.TheVariants as times
 use Rattle.refusal.specs.declared.Fault.{Fault}
 use Rattle.rules.specs.Assembly.{put, received, on_landing, segment_of, segment_step}
-use Rattle.rules.specs.Calls.{Call, header, segment, time, find_name, next_place, body_of, card, card_byte, slot_size, Reply, answered, refused}
+use Rattle.rules.specs.Calls.{Call, header, segment, group, time, find_name, next_place, body_of, card, card_byte, slot_size, Reply, answered, refused}
 use Rattle.rules.specs.Clocks.{tick, walk, on_setting, on_reading, setting_step, reading_step, time_step}
+use Rattle.rules.specs.Groups.{on_group, group_step}
 use Rattle.rules.specs.Headers.{slot_for, image_step, recategorised, told_update, update_step, by_kind, on_header, header_step}
-use Rattle.rules.specs.Laws.{CountOn, given_by, given_in, NumbersRise, on_taken}
+use Rattle.rules.specs.Laws.{CountOn, given_by, given_in_group, given_in, NumbersRise, on_taken}
 use Rattle.rules.specs.Runs.{opened, after, replies, step}
 use Rattle.rules.specs.Soundness.{Sound}
 use Rattle.rules.specs.Triggers.{Verdict, nothing, effect, late, wait, verdict}
@@ -225,10 +228,34 @@ module _ (w : World) (h : Sound w.state) where
   clocked : (xs : List ℕ) → Goes w (time xs) (time_step w xs)
   clocked xs = cond_both (eqb s.clock 0) _ _ (Goes w (time xs)) (λ e. setting xs) (λ e. reading xs)
 
+  -- a data group does as the call that it asks
+  grouped : (xs : List ℕ) → Goes w (group xs) (group_step w xs)
+  unfolding group_step
+  grouped xs =
+      cond_both (fits_memory w) _ _ (Goes w (group xs)) (λ fm. go (group_of xs) refl)
+      (λ fm. still w (group xs) _ h (λ ns. none (group_of xs) _ ns))
+    where
+      none : (r : Result Group Fault) (e : Fault) (ns : List ℕ) → given_in_group r (answered (Refused e)) ns ≡ ns
+      none (Err d) e ns = refl
+      none (Ok (groups.header t ys)) e ns = refl
+      none (Ok (groups.segment t n last ys)) e ns = refl
+      none (Ok groups.other) e ns = refl
+
+      as_in : (r : Result Group Fault) (c : Call) (o : Reply × World) → group_of xs ≡ r → ((ns : List ℕ) → given_by c o.0 ns ≡ given_in_group r o.0 ns) → Goes w c o → Goes w (group xs) o
+      as_in r c o i e g =
+          record { sound = g.sound; rises = λ ns d. subst (λ q. CountOn w.state.given (given_in_group q o.0 ns)) (sym i) (subst (CountOn w.state.given) (e ns) (g.rises ns d)) }
+
+      go : (r : Result Group Fault) → group_of xs ≡ r → Goes w (group xs) (on_group r w)
+      go (Err e) i = as_in (Err e) card _ i (λ ns. refl) (still w card _ h (λ ns. refl))
+      go (Ok (groups.header t ys)) i = as_in (Ok (groups.header t ys)) (header t ys) _ i (λ ns. refl) (headed t ys)
+      go (Ok (groups.segment t n last ys)) i = as_in (Ok (groups.segment t n last ys)) (segment t n last ys) _ i (λ ns. refl) (segmented t n last ys)
+      go (Ok groups.other) i = as_in (Ok groups.other) card _ i (λ ns. refl) (still w card _ h (λ ns. refl))
+
   goes : (c : Call) → Goes w c (step w c)
   unfolding step
   goes (header t xs) = headed t xs
   goes (segment t n last xs) = segmented t n last xs
+  goes (group xs) = grouped xs
   goes (time xs) = clocked xs
   goes (find_name n) = still w (find_name n) _ h (λ ns. refl)
   goes (next_place p) = still w (next_place p) _ h (λ ns. refl)

@@ -15,6 +15,7 @@ pub mod Rooms
 mod Enters
 mod Histories
 mod Outcomes
+mod Groupings
 pub mod Stand
 mod Computed
 pub mod Shots

@@ -1,13 +1,15 @@
 -- The moments of a ledger's history never fall, whatever was answered.
 use Rattle.std.proofs.Common.{◌≡◌, ℕ, zero, suc, ◌-◌, ◌≤◌, eqb, List, [], ◌∷◌, ◌++◌, map, Ok, Err, filter, Result, refl, arith}
+use Rattle.datagroup.specs.Groups as groups
+use Rattle.datagroup.specs.Groups.{Group, group_of}
 use Rattle.header.specs.Headers.{HeaderRecord}
 use Rattle.moment.specs.Field.{time_of}
 use Rattle.moment.specs.declared.times.Time.{Time}
 use Rattle.moment.specs.declared.times.Time.TheVariants.{Now, At}
 use Rattle.refusal.specs.declared.Fault.{Fault}
-use Rattle.rules.specs.Calls.{Call, header, segment, time, find_name, next_place, body_of, card, card_byte, slot_size, Reply, answered, counted, refused, found, placed, bytes, shows, byte, sized}
+use Rattle.rules.specs.Calls.{Call, header, segment, group, time, find_name, next_place, body_of, card, card_byte, slot_size, Reply, answered, passed_over, counted, refused, found, placed, bytes, shows, byte, sized}
 use Rattle.rules.specs.Laws.{NeverFalls}
-use Rattle.rules.specs.Ledgers.{Ledger, ledger, entered, pass, instant, happen, leave, start, arming, effect_of, said, on_said, on_answer, on_answered, on_counted, moved_to, kept, filed_in}
+use Rattle.rules.specs.Ledgers.{Ledger, ledger, entered, pass, instant, happen, leave, start, arming, effect_of, said, on_said, on_answer, on_answered, on_counted, moved_to, kept, filed_in, headed, pieced, grouped}
 use Rattle.rules.specs.Triggers.{Verdict, nothing, effect, late, wait, verdict, Effect}
 use Rattle.rules.specs.declared.answers.Answer.{Answer}
 use Rattle.rules.specs.declared.answers.Answer.TheVariants.{Taken, Repeat, Filed, Shown, Late, Changed, Refused}
@@ -96,6 +98,7 @@ on_answer_fine (Refused e) l p q h i j = h
 
 on_answered_fine : (r : Reply) (l : Ledger) (f : Answer → Ledger) → Fine l → ((a : Answer) → Fine (f a)) → Fine (on_answered r l f)
 on_answered_fine (answered a) l f h i = i a
+on_answered_fine passed_over l f h i = h
 on_answered_fine (counted n) l f h i = h
 on_answered_fine (refused e) l f h i = h
 on_answered_fine (found o) l f h i = h
@@ -107,6 +110,7 @@ on_answered_fine (sized n) l f h i = h
 
 on_counted_fine : (r : Reply) (l m : Ledger) → Fine l → Fine m → Fine (on_counted r l m)
 on_counted_fine (answered a) l m h i = h
+on_counted_fine passed_over l m h i = h
 on_counted_fine (counted n) l m h i = i
 on_counted_fine (refused e) l m h i = h
 on_counted_fine (found o) l m h i = h
@@ -127,15 +131,28 @@ moved_fine (Ok (At t)) l h =
     cond_both (eqb l.clock 0) _ _ Fine (λ e. rising_happen (start t l) l.clock t (omega (arith, eqb-true l.clock 0 e)) h)
     (λ e. rising_pass (t - l.clock) l h)
 
-entered_fine : (l : Ledger) (c : Call) (r : Reply) → Fine l → Fine (entered l c r)
-unfolding entered
-entered_fine l (header t xs) r h =
+headed_fine : (xs : List ℕ) (r : Reply) (l : Ledger) → Fine l → Fine (headed xs r l)
+headed_fine xs r l h =
     on_answered_fine r l _ h
     (λ a. on_said_fine (said xs) l _ h (λ x. on_answer_fine a l _ _ h (λ n. h) (λ n. rising_arming (verdict l.clock x.trigger) n l h)))
-entered_fine l (segment t i last xs) r h =
+
+pieced_fine : (i : ℕ) (xs : List ℕ) (r : Reply) (l : Ledger) → Fine l → Fine (pieced i xs r l)
+pieced_fine i xs r l h =
     on_answered_fine r l _ h
     (λ a. on_answer_fine a l (λ n. kept n i xs l) (λ n. filed_in n (kept n i xs l)) h (λ n. h)
     (λ n. rising_arming (verdict l.clock ((kept n i xs l).known n).trigger) n _ h))
+
+grouped_fine : (g : Result Group Fault) (r : Reply) (l : Ledger) → Fine l → Fine (grouped g r l)
+grouped_fine (Err e) r l h = h
+grouped_fine (Ok (groups.header t xs)) r l h = headed_fine xs r l h
+grouped_fine (Ok (groups.segment t i last xs)) r l h = pieced_fine i xs r l h
+grouped_fine (Ok groups.other) r l h = h
+
+entered_fine : (l : Ledger) (c : Call) (r : Reply) → Fine l → Fine (entered l c r)
+unfolding entered
+entered_fine l (header t xs) r h = headed_fine xs r l h
+entered_fine l (segment t i last xs) r h = pieced_fine i xs r l h
+entered_fine l (group xs) r h = grouped_fine (group_of xs) r l h
 entered_fine l (time xs) r h = on_counted_fine r l _ h (moved_fine (time_of xs) l h)
 entered_fine l (find_name n) r h = h
 entered_fine l (next_place c) r h = h

@@ -1,5 +1,7 @@
 -- What takes effect in a call is what the display shows of it, and an accepted time field answers how many that are.
 use Rattle.std.proofs.Common.{◌≡◌, ℕ, zero, suc, ◌+◌, ◌-◌, Bool, eqb, leb, List, [], length, Some, None, Option, Ok, Err, Result, sym, refl, ap, ◌∙◌, ap₂, arith}
+use Rattle.datagroup.specs.Groups as groups
+use Rattle.datagroup.specs.Groups.{Group, group_of}
 use Rattle.display.specs.Meaning.{Meaning}
 use Rattle.header.specs.Headers.{HeaderRecord, header_of}
 use Rattle.header.specs.declared.kinds.Category.{Category}
@@ -12,9 +14,10 @@ use Rattle.refusal.specs.declared.Fault.{Fault}
 use Rattle.rules.proofs.Finds.{cond_two, on_some_two, on_arriving_two, on_some_both}
 use Rattle.rules.proofs.Passes.{show_all_append}
 use Rattle.rules.specs.Assembly.{put, received, filed, on_landing, segment_of, segment_step}
-use Rattle.rules.specs.Calls.{header, segment, time, find_name, next_place, body_of, card, card_byte, slot_size, Reply, counted, refused}
+use Rattle.rules.specs.Calls.{header, segment, group, time, find_name, next_place, body_of, card, card_byte, slot_size, Reply, answered, counted, refused}
 use Rattle.rules.specs.Clocks.{tick, ticked, walk, walked, on_setting, on_reading, setting_step, reading_step, time_step}
-use Rattle.rules.specs.Effects.{arming_effects, tick_effects, walk_effects, on_setting_effects, on_reading_effects, setting_effects, reading_effects, time_effects, by_kind_effects, on_header_effects, header_effects, filed_effects, landing_effects, segment_effects, effects}
+use Rattle.rules.specs.Effects.{arming_effects, tick_effects, walk_effects, on_setting_effects, on_reading_effects, setting_effects, reading_effects, time_effects, by_kind_effects, on_header_effects, header_effects, filed_effects, landing_effects, segment_effects, on_group_effects, group_effects, effects}
+use Rattle.rules.specs.Groups.{on_group, group_step}
 use Rattle.rules.specs.Headers.{slot_for, recategorised, by_kind, on_header, header_step}
 use Rattle.rules.specs.Laws.{EffectsAreShown, CountsAreEffects}
 use Rattle.rules.specs.Questions.{body_of_number}
@@ -105,6 +108,17 @@ module _ (w : World) where
       (λ e. on_some_two P (first_slot (comes t) w.state.slots) _ _ _ _ refl (λ k z. on_arriving_two P (slot_at w.state k) _ _ _ _ refl (λ o i. landing_shown (landing o.progress (segment_of n last xs)) k o (segment_of n last xs) xs)))
       (λ e. refl)
 
+  on_group_shown : (r : Result Group Fault) → Told w (on_group r w) (on_group_effects r w)
+  on_group_shown (Err e) = refl
+  on_group_shown (Ok (groups.header t xs)) = header_shown t xs
+  on_group_shown (Ok (groups.segment t n last xs)) = segment_shown t n last xs
+  on_group_shown (Ok groups.other) = refl
+
+  group_shown : (xs : List ℕ) → Told w (group_step w xs) (group_effects w xs)
+  unfolding group_step group_effects
+  group_shown xs =
+      cond_two (λ (o : Reply × World) (es : List Effect). Told w o es) (fits_memory w) _ _ _ _ (λ e. on_group_shown (group_of xs)) (λ e. refl)
+
   on_setting_shown : (r : Result Time Fault) → Told w (on_setting r w) (on_setting_effects r w)
   on_setting_shown (Err e) = refl
   on_setting_shown (Ok Now) = refl
@@ -128,6 +142,7 @@ pub shown : EffectsAreShown
 unfolding step effects
 shown w (header t xs) = header_shown w t xs
 shown w (segment t n last xs) = segment_shown w t n last xs
+shown w (group xs) = group_shown w xs
 shown w (time xs) = time_shown w xs
 shown w (find_name n) = refl
 shown w (next_place c) = refl
@@ -145,6 +160,21 @@ is_counted n es h = record { rightly = λ k e. let q : n ≡ k = cc in sym q ∙
 
 refusal : (d : Fault) (es : List Effect) → Counts (refused d) es
 refusal d es = record { rightly = λ n e. let z : ◌≡◌ {A = ℕ} 0 1 = cc in absurd (omega arith) }
+
+answer : (a : Answer) (es : List Effect) → Counts (answered a) es
+answer a es = record { rightly = λ n e. let z : ◌≡◌ {A = ℕ} 0 1 = cc in absurd (omega arith) }
+
+-- a data group counts nothing
+in_group : (w : World) (r : Result Group Fault) → Counts (on_group r w).0 (on_group_effects r w)
+in_group w (Err e) = answer _ _
+in_group w (Ok (groups.header t xs)) = answer _ _
+in_group w (Ok (groups.segment t n last xs)) = answer _ _
+in_group w (Ok groups.other) = record { rightly = λ n e. let z : ◌≡◌ {A = ℕ} 0 1 = cc in absurd (omega arith) }
+
+in_groups : (w : World) (xs : List ℕ) → Counts (group_step w xs).0 (group_effects w xs)
+unfolding group_step group_effects
+in_groups w xs =
+    cond_two (λ (o : Reply × World) (es : List Effect). Counts o.0 es) (fits_memory w) _ _ _ _ (λ e. in_group w (group_of xs)) (λ e. answer _ _)
 
 settings : (w : World) (r : Result Time Fault) → Counts (on_setting r w).0 (on_setting_effects r w)
 settings w (Err d) = refusal d _
@@ -169,6 +199,7 @@ pub counted_effects : CountsAreEffects
 unfolding step effects
 counted_effects w (header t xs) n e = let z : ◌≡◌ {A = ℕ} 0 1 = cc in absurd (omega arith)
 counted_effects w (segment t i last xs) n e = let z : ◌≡◌ {A = ℕ} 0 1 = cc in absurd (omega arith)
+counted_effects w (group xs) n e = (in_groups w xs).rightly n e
 counted_effects w (time xs) n e = (times w xs).rightly n e
 counted_effects w (find_name i) n e = let z : ◌≡◌ {A = ℕ} 0 1 = cc in absurd (omega arith)
 counted_effects w (next_place c) n e = let z : ◌≡◌ {A = ℕ} 0 1 = cc in absurd (omega arith)

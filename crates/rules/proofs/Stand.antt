@@ -8,6 +8,7 @@ use Rattle.rules.specs.Ledgers.{Ledger, ledger, entered, pass, blank}
 use Rattle.rules.specs.Runs.{opened, after, replies, step}
 use Rattle.rules.specs.Worlds.{World}
 use Rattle.rules.proofs.Enters.{runs, opens}
+use Rattle.rules.proofs.Groupings.{groups_are_calls}
 use Rattle.rules.proofs.Histories.{told_runs}
 use Rattle.rules.proofs.Follows.{newest, Follows}
 use Rattle.rules.proofs.Moments.{ledger_fine, settles, all_mono}
@@ -74,6 +75,7 @@ module _ (m : Meaning) (keeps : Keeps m) (size : ℕ) (memory : List ℕ) where
     all_sound = λ cs. sound_run cs (opened m size memory) (sound_open m size memory);
     numbers_rise = numbers_rise m size memory;
     history_is_effects = λ cs. sym (told_runs m keeps cs (opened m size memory) blank (sound_open m size memory) (opens m keeps size memory));
+    groups_are_calls = groups_are_calls m size memory;
   }
 
 pub laws : LawsStand

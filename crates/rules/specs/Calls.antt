@@ -6,12 +6,13 @@ use Rattle.refusal.specs.declared.Fault.{Fault}
 use Rattle.rules.specs.declared.answers.Answer.{Answer}
 use Rattle.shelf.specs.declared.entries.Entry.{Entry}
 
--- headers and segments come under a TransportId; a time field sets the clock until one is accepted, and is a reading after that;
--- the others are questions: a held slide's number by its name, the first category place above a given one, a held body, the card,
--- the card's byte at an index, the slot size
+-- headers and segments come under a TransportId, or in a data group; a time field sets the clock until one is accepted, and is a
+-- reading after that; the others are questions: a held slide's number by its name, the first category place above a given one, a
+-- held body, the card, the card's byte at an index, the slot size
 pub data Call : Type 0 where
   header : (transport : ℕ) (bytes : List ℕ) → Call
   segment : (transport number : ℕ) (last : Bool) (bytes : List ℕ) → Call
+  group : (bytes : List ℕ) → Call
   time : (bytes : List ℕ) → Call
   find_name : NameRecord → Call
   next_place : ℕ × ℕ → Call
@@ -20,9 +21,10 @@ pub data Call : Type 0 where
   card_byte : (index : ℕ) → Call
   slot_size : Call
 
--- a setting and a reading answer their number of shows
+-- a data group of another type is passed over; a setting and a reading answer their number of shows
 pub data Reply : Type 0 where
   answered : Answer → Reply
+  passed_over : Reply
   counted : ℕ → Reply
   refused : Fault → Reply
   found : Option ℕ → Reply

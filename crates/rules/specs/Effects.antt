@@ -1,5 +1,7 @@
 -- What takes effect in a call, in order. A refused call, a repeat and a question have none.
 use Rattle.std.specs.Prelude.{ℕ, zero, suc, ◌-◌, Bool, cond, List, [], ◌∷◌, ◌++◌, map, Ok, Err, Result, ◌==◌, nat_le}
+use Rattle.datagroup.specs.Groups as groups
+use Rattle.datagroup.specs.Groups.{Group, group_of}
 use Rattle.header.specs.Headers.{HeaderRecord, header_of}
 use Rattle.header.specs.declared.kinds.Kind.{Kind}
 use Rattle.header.specs.declared.kinds.Kind.TheVariants.{Image, Update}
@@ -8,7 +10,7 @@ use Rattle.moment.specs.declared.times.Time.{Time}
 use Rattle.moment.specs.declared.times.Time.TheVariants.{Now, At}
 use Rattle.refusal.specs.declared.Fault.{Fault}
 use Rattle.rules.specs.Assembly.{put, received, on_arriving, segment_of}
-use Rattle.rules.specs.Calls.{Call, header, segment, time, find_name, next_place, body_of, card, card_byte, slot_size}
+use Rattle.rules.specs.Calls.{Call, header, segment, group, time, find_name, next_place, body_of, card, card_byte, slot_size}
 use Rattle.rules.specs.Clocks.{expired, walk, prepared}
 use Rattle.rules.specs.Headers.{on_some, recategorised}
 use Rattle.rules.specs.Runs.{step}
@@ -94,10 +96,21 @@ unfoldable pub segment_effects : World → ℕ → ℕ → Bool → List ℕ →
 segment_effects w transport n last xs =
     cond (fits_memory w) (on_some (first_slot (comes transport) w.state.slots) [] (λ k. on_arriving (slot_at w.state k) [] (λ o. landing_effects (landing o.progress (segment_of n last xs)) k o (segment_of n last xs) xs w))) []
 
+-- a data group: those of the call that it asks
+abbrev pub on_group_effects : Result Group Fault → World → List Effect
+on_group_effects (Err e) w = []
+on_group_effects (Ok (groups.header t xs)) w = header_effects w xs
+on_group_effects (Ok (groups.segment t n last xs)) w = segment_effects w t n last xs
+on_group_effects (Ok groups.other) w = []
+
+unfoldable pub group_effects : World → List ℕ → List Effect
+group_effects w xs = cond (fits_memory w) (on_group_effects (group_of xs) w) []
+
 -- a call, and a list of calls
 unfoldable pub effects : World → Call → List Effect
 effects w (header t xs) = header_effects w xs
 effects w (segment t n last xs) = segment_effects w t n last xs
+effects w (group xs) = group_effects w xs
 effects w (time xs) = time_effects w xs
 effects w (find_name n) = []
 effects w (next_place c) = []

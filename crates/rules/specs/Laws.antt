@@ -1,10 +1,14 @@
 -- The laws of whole runs.
-use Rattle.std.specs.Prelude.{◌≡◌, ℕ, suc, ◌+◌, ◌<◌, ◌≤◌, true, List, [], ◌∷◌, ◌++◌, map, length, Some, Ok, Option}
+use Rattle.std.specs.Prelude.{◌≡◌, ℕ, suc, ◌+◌, ◌<◌, ◌≤◌, true, List, [], ◌∷◌, ◌++◌, map, length, Some, Ok, Err, Option, Result}
+use Rattle.datagroup.specs.Groups as groups
+use Rattle.datagroup.specs.Groups.{Group, group_of}
 use Rattle.display.specs.Meaning.{Meaning, Card, Keeps, accepts}
 use Rattle.moment.specs.Field.{time_of}
 use Rattle.moment.specs.declared.times.Time.TheVariants.{At}
-use Rattle.rules.specs.Calls.{Call, header, segment, time, find_name, next_place, body_of, card, card_byte, slot_size, Reply, answered, counted, refused, found, placed, bytes, shows, byte, sized}
+use Rattle.refusal.specs.declared.Fault.{Fault}
+use Rattle.rules.specs.Calls.{Call, header, segment, group, time, find_name, next_place, body_of, card, card_byte, slot_size, Reply, answered, passed_over, counted, refused, found, placed, bytes, shows, byte, sized}
 use Rattle.rules.specs.Effects.{effects, all_effects}
+use Rattle.rules.specs.Groups.{plainly}
 use Rattle.rules.specs.Ledgers.{Ledger, blank, ledger}
 use Rattle.rules.specs.Reached.{Reached}
 use Rattle.rules.specs.Runs.{opened, after, replies, step}
@@ -91,6 +95,17 @@ module _ (m : Meaning) (size : ℕ) (memory : List ℕ) where
   abbrev pub HistoryIsEffects : Type 0
   HistoryIsEffects = (cs : List Call) → all_effects (opened m size memory) cs ≡ (account cs).history
 
+  -- calls and others in their place: the answers are the same, so is what is left, what is shown and the account of triggers
+  pub record Same (cs ds : List Call) : Type 0 where
+    pub replies : answers cs ≡ answers ds
+    pub ends : ending cs ≡ ending ds
+    pub shows : all_effects (opened m size memory) cs ≡ all_effects (opened m size memory) ds
+    pub events : account cs ≡ account ds
+
+  -- in place of any data group the header or the segment call will do that it asks
+  abbrev pub GroupsAreCalls : Type 0
+  GroupsAreCalls = (cs : List Call) → Same cs (map plainly cs)
+
 -- what takes effect in a call is what the display shows of it, and an accepted time field answers how many that are
 abbrev pub EffectsAreShown : Type 0
 EffectsAreShown = (w : World) (c : Call) → (step w c).1.display ≡ show_all w.display (effects w c)
@@ -107,6 +122,7 @@ on_taken (answered (Shown n)) ns = ns
 on_taken (answered (Late n)) ns = ns
 on_taken (answered (Changed n)) ns = ns
 on_taken (answered (Refused e)) ns = ns
+on_taken passed_over ns = ns
 on_taken (counted n) ns = ns
 on_taken (refused e) ns = ns
 on_taken (found o) ns = ns
@@ -116,9 +132,17 @@ on_taken (shows c) ns = ns
 on_taken (byte b) ns = ns
 on_taken (sized n) ns = ns
 
+-- a data group gives a number where it brings a header
+abbrev pub given_in_group : Result Group Fault → Reply → List ℕ → List ℕ
+given_in_group (Err e) r ns = ns
+given_in_group (Ok (groups.header t xs)) r ns = on_taken r ns
+given_in_group (Ok (groups.segment t n last xs)) r ns = ns
+given_in_group (Ok groups.other) r ns = ns
+
 abbrev pub given_by : Call → Reply → List ℕ → List ℕ
 given_by (header t xs) r ns = on_taken r ns
 given_by (segment t n last xs) r ns = ns
+given_by (group xs) r ns = given_in_group (group_of xs) r ns
 given_by (time xs) r ns = ns
 given_by (find_name n) r ns = ns
 given_by (next_place c) r ns = ns
@@ -154,6 +178,7 @@ pub record RunLaws (m : Meaning) (size : ℕ) (memory : List ℕ) : Type 0 where
   pub all_sound : AllSound m size memory
   pub numbers_rise : NumbersRise m size memory
   pub history_is_effects : HistoryIsEffects m size memory
+  pub groups_are_calls : GroupsAreCalls m size memory
 
 -- they hold for every display that keeps a display's meaning, every slot size and every memory
 abbrev pub LawsStand : Type 0

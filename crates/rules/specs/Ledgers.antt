@@ -1,13 +1,15 @@
 -- The ledger: what took effect and what waits, worked out from the calls, their arguments and their answers alone.
 -- It sees no slot, no memory and no display.
 use Rattle.std.specs.Prelude.{ℕ, zero, suc, ◌-◌, ◌^◌, Bool, cond, not, List, [], ◌∷◌, ◌++◌, map, None, Ok, Err, filter, Option, Result, ◌==◌, nat_le}
+use Rattle.datagroup.specs.Groups as groups
+use Rattle.datagroup.specs.Groups.{Group, group_of}
 use Rattle.header.specs.Headers.{HeaderRecord, header_of}
 use Rattle.header.specs.Names.{NameRecord, same_name}
 use Rattle.moment.specs.Field.{time_of}
 use Rattle.moment.specs.declared.times.Time.{Time}
 use Rattle.moment.specs.declared.times.Time.TheVariants.{Now, At}
 use Rattle.refusal.specs.declared.Fault.{Fault}
-use Rattle.rules.specs.Calls.{Call, header, segment, time, find_name, next_place, body_of, card, card_byte, slot_size, Reply, answered, counted, refused, found, placed, bytes, shows, byte, sized}
+use Rattle.rules.specs.Calls.{Call, header, segment, group, time, find_name, next_place, body_of, card, card_byte, slot_size, Reply, answered, passed_over, counted, refused, found, placed, bytes, shows, byte, sized}
 use Rattle.rules.specs.Triggers.{Verdict, nothing, effect, late, wait, verdict, Effect}
 use Rattle.rules.specs.declared.answers.Answer.{Answer}
 use Rattle.rules.specs.declared.answers.Answer.TheVariants.{Taken, Repeat, Filed, Shown, Late, Changed, Refused}
@@ -115,6 +117,7 @@ on_answer (Refused e) l f g = l
 
 abbrev pub on_answered : Reply → Ledger → (Answer → Ledger) → Ledger
 on_answered (answered a) l f = f a
+on_answered passed_over l f = l
 on_answered (counted n) l f = l
 on_answered (refused e) l f = l
 on_answered (found o) l f = l
@@ -126,6 +129,7 @@ on_answered (sized n) l f = l
 
 abbrev pub on_counted : Reply → Ledger → Ledger → Ledger
 on_counted (answered a) l m = l
+on_counted passed_over l m = l
 on_counted (counted n) l m = m
 on_counted (refused e) l m = l
 on_counted (found o) l m = l
@@ -141,11 +145,26 @@ moved_to (Err e) l = l
 moved_to (Ok Now) l = l
 moved_to (Ok (At t)) l = cond (l.clock == 0) (happen t (start t l)) (pass (t - l.clock) l)
 
+-- a header and its answer, a segment and its answer
+abbrev pub headed : List ℕ → Reply → Ledger → Ledger
+headed xs r l =
+    on_answered r l (λ a. on_said (said xs) l (λ h. on_answer a l (λ n. noted n (known_from h) l) (λ n. arming (verdict l.clock h.trigger) n l)))
+
+abbrev pub pieced : ℕ → List ℕ → Reply → Ledger → Ledger
+pieced i xs r l = on_answered r l (λ a. on_answer a l (λ n. kept n i xs l) (λ n. filed_in n (kept n i xs l)))
+
+-- a data group and its answer: as of the call that it asks
+abbrev pub grouped : Result Group Fault → Reply → Ledger → Ledger
+grouped (Err e) r l = l
+grouped (Ok (groups.header t xs)) r l = headed xs r l
+grouped (Ok (groups.segment t i last xs)) r l = pieced i xs r l
+grouped (Ok groups.other) r l = l
+
 -- the ledger after a call and its answer: refused calls, repeats and questions change nothing
 unfoldable pub entered : Ledger → Call → Reply → Ledger
-entered l (header t xs) r =
-    on_answered r l (λ a. on_said (said xs) l (λ h. on_answer a l (λ n. noted n (known_from h) l) (λ n. arming (verdict l.clock h.trigger) n l)))
-entered l (segment t i last xs) r = on_answered r l (λ a. on_answer a l (λ n. kept n i xs l) (λ n. filed_in n (kept n i xs l)))
+entered l (header t xs) r = headed xs r l
+entered l (segment t i last xs) r = pieced i xs r l
+entered l (group xs) r = grouped (group_of xs) r l
 entered l (time xs) r = on_counted r l (moved_to (time_of xs) l)
 entered l (find_name n) r = l
 entered l (next_place c) r = l

@@ -7,6 +7,7 @@ pub mod Clocks
 pub mod Passes
 pub mod Questions
 pub mod Soundness
+pub mod Groups
 pub mod Runs
 pub mod Ledgers
 pub mod Laws

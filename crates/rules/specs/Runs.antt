@@ -3,21 +3,18 @@ use Rattle.std.specs.Prelude.{ℕ, min, List, [], ◌∷◌, replicate, Ok, Err,
 use Rattle.display.specs.Meaning.{Meaning}
 use Rattle.refusal.specs.declared.Fault.{Fault}
 use Rattle.rules.specs.Assembly.{segment_step}
-use Rattle.rules.specs.Calls.{Call, header, segment, time, find_name, next_place, body_of, card, card_byte, slot_size, Reply, answered, refused, found, placed, bytes, shows, byte, sized}
+use Rattle.rules.specs.Calls.{Call, header, segment, group, time, find_name, next_place, body_of, card, card_byte, slot_size, Reply, refused, found, placed, bytes, shows, byte, sized}
 use Rattle.rules.specs.Clocks.{time_step}
+use Rattle.rules.specs.Groups.{as_answer, group_step}
 use Rattle.rules.specs.Headers.{header_step}
 use Rattle.rules.specs.Questions.{number_of_name, place_above, body_of_number, card_numbers, card_byte_of}
 use Rattle.rules.specs.Worlds.{World}
-use Rattle.rules.specs.declared.answers.Answer.{Answer}
 use Rattle.slots.specs.Slides.{free}
 
 -- opened over a display with slots of at most that size: the first slot given will be slot 0
 abbrev pub opened : Meaning → ℕ → List ℕ → World
 opened m size memory =
     record { state = record { clock = 0; given = 0; recent = 11; room = min size m.frame; slots = replicate 12 free; waiting = []; places = [] }; memory = memory; display = m }
-
-abbrev pub as_answer : Answer × World → Reply × World
-as_answer x = (answered x.0, x.1)
 
 abbrev pub as_bytes : Result (List ℕ) Fault → Reply
 as_bytes (Ok xs) = bytes xs
@@ -27,6 +24,7 @@ as_bytes (Err e) = refused e
 unfoldable pub step : World → Call → Reply × World
 step w (header t xs) = as_answer (header_step w t xs)
 step w (segment t n last xs) = as_answer (segment_step w t n last xs)
+step w (group xs) = group_step w xs
 step w (time xs) = time_step w xs
 step w (find_name n) = (found (number_of_name w n), w)
 step w (next_place c) = (placed (place_above w c), w)

@@ -1,4 +1,4 @@
-// What headers and segments answer.
+// What headers, segments and data groups answer.
 use refusal::Fault;
 
 // The answer to a header or a segment, with the accession number of the slide that it is about. The refusal is one of its
@@ -19,4 +19,13 @@ pub enum Answer {
     Changed(u32),
     // nothing changed
     Refused(Fault),
+}
+
+// The answer to a data group.
+#[derive(Clone, Copy)]
+pub enum GroupAnswer {
+    // that of the header or the segment call that it asked for, or the group's own refusal
+    Answered(Answer),
+    // the group asked for none: nothing changed
+    PassedOver,
 }

@@ -2,7 +2,7 @@ use Rattle.std.proofs.Common.{◌≡◌, ℕ, ◌+◌, List, Ok, Err, get_or, ma
 use Rattle.std.proofs.lemmas.List.{take_rest}
 use Rattle.calls.specs.Plain.{reply_of}
 use Rattle.calls.specs.declared.Call.{Call}
-use Rattle.calls.specs.declared.Call.TheVariants.{Header, Segment, Time, FindName, NextPlace, Body, Card, CardByte, SlotSize}
+use Rattle.calls.specs.declared.Call.TheVariants.{Header, Segment, Group, Time, FindName, NextPlace, Body, Card, CardByte, SlotSize}
 use Rattle.calls.specs.declared.Reply.TheVariants.{Counted}
 use Rattle.receiver.specs.Receivers.{world}
 use Rattle.replay.proofs.Clocked.{started_above, unset_on}
@@ -16,6 +16,7 @@ use Rattle.replay.proofs.replays.run_unset.Goals as goal
 no_time : (c : Call) → ((b : Bor (List ℕ)) → c ≡ Time b → ⊥) → NoTime c
 no_time (Header t xs) h = tt
 no_time (Segment t s) h = tt
+no_time (Group xs) h = tt
 no_time (Time xs) h = h xs refl
 no_time (FindName n) h = tt
 no_time (NextPlace p) h = tt

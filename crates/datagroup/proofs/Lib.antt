@@ -1,0 +1,6 @@
+mod Chains
+mod Digits
+mod Found
+mod Spelled
+mod Checksums
+pub mod Laws

@@ -1,0 +1,4 @@
+pub mod Fields
+pub mod Groups
+pub mod Written
+pub mod Examples
