@@ -29,15 +29,15 @@ module _ (w : World) (t : ℕ) (xs : List ℕ) where
   header_kind x k i h e = ap (λ y. by_kind y w t x) (sym i) ∙ header_says (Ok x) h e
 
 -- and what takes effect in it
-module _ (w : World) (xs : List ℕ) where
-  pub header_misfit_tells : fits_memory w ≡ false → [] ≡ header_effects w xs
+module _ (w : World) (t : ℕ) (xs : List ℕ) where
+  pub header_misfit_tells : fits_memory w ≡ false → [] ≡ header_effects w t xs
   unfolding header_effects
-  header_misfit_tells h = sym (cond-false (fits_memory w) (on_header_effects (header_of xs w.state.room) w) [] h)
+  header_misfit_tells h = sym (cond-false (fits_memory w) (on_header_effects (header_of xs w.state.room) w t) [] h)
 
-  pub header_says_tells : (r : Result HeaderRecord Fault) → fits_memory w ≡ true → r ≡ header_of xs w.state.room → on_header_effects r w ≡ header_effects w xs
+  pub header_says_tells : (r : Result HeaderRecord Fault) → fits_memory w ≡ true → r ≡ header_of xs w.state.room → on_header_effects r w t ≡ header_effects w t xs
   unfolding header_effects
   header_says_tells r h e =
-      ap (λ x. on_header_effects x w) e ∙ sym (cond-true (fits_memory w) (on_header_effects (header_of xs w.state.room) w) [] h)
+      ap (λ x. on_header_effects x w t) e ∙ sym (cond-true (fits_memory w) (on_header_effects (header_of xs w.state.room) w t) [] h)
 
-  pub header_kind_tells : (x : HeaderRecord) (k : Kind) → x.kind ≡ k → fits_memory w ≡ true → Ok x ≡ header_of xs w.state.room → by_kind_effects k w x ≡ header_effects w xs
-  header_kind_tells x k i h e = ap (λ y. by_kind_effects y w x) (sym i) ∙ header_says_tells (Ok x) h e
+  pub header_kind_tells : (x : HeaderRecord) (k : Kind) → x.kind ≡ k → fits_memory w ≡ true → Ok x ≡ header_of xs w.state.room → by_kind_effects k w t x ≡ header_effects w t xs
+  header_kind_tells x k i h e = ap (λ y. by_kind_effects y w t x) (sym i) ∙ header_says_tells (Ok x) h e

@@ -23,13 +23,13 @@ impl Parts {
         bytes: &[u8],
     ) -> Result<Answer, Fault>
         ensures world { (said result, world_of self.new memory.now (D.Display.meaning display.new)) ≡ header_step (world_of self.old memory.now (D.Display.meaning display.old)) transport bytes.now }
-        ensures reached { Reached D.Display.told display.old (header_effects (world_of self.old memory.now (D.Display.meaning display.old)) bytes.now) display.new }
+        ensures reached { Reached D.Display.told display.old (header_effects (world_of self.old memory.now (D.Display.meaning display.old)) transport bytes.now) display.new }
         ensures refused { Stays (said result) self.old self.new × Stays (said result) display.old display.new }
     {
         self.admit(memory)?;
         let header = read_header(bytes, self.room)?;
         match header.kind {
-            Kind::Image => self.image(transport, &header),
+            Kind::Image => self.image(display, memory, transport, &header),
             Kind::Update => self.update(display, memory, &header),
         }
     }

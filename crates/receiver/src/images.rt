@@ -8,12 +8,15 @@ ghost use Rattle.rack.specs.Listed.{filed};
 ghost use Rattle.receiver.specs.Answers.{Stays};
 ghost use Rattle.receiver.specs.Images.{AnnouncesImage};
 ghost use Rattle.receiver.specs.Views.{state_of, world_of, said};
+ghost use Rattle.rules.specs.Effects.{image_effects};
 ghost use Rattle.rules.specs.Headers.{begun, new_image, image_step};
+ghost use Rattle.rules.specs.Reached.{Reached};
 ghost use Rattle.slots.specs.Seen.{all_seen};
 ghost use Rattle.slots.specs.Slides.{free, image_of, numbered, passed};
 
 use crate::faults::{EXPIRY_NOT_AHEAD, NO_SLOT_TO_USE};
 use crate::parts::Parts;
+use display::Display;
 use header::kinds::Header;
 use header::names::Name;
 use rack::racks::Places;
@@ -24,7 +27,7 @@ use slots::images::{ComesAgain, version_of};
 use slots::indices::SlotIndex;
 use slots::moves::passed;
 use slots::records::{Arrival, Slots};
-use slots::sought::Versioned;
+use slots::sought::{SentUnder, SlotTest, Versioned};
 
 // The last accession number that can be given.
 const LAST_NUMBER: u32 = u32::MAX;
@@ -76,18 +79,29 @@ impl Parts {
         Ok(Answer::Taken(self.given))
     }
 
-    // Takes an image header: a repeat if a slide of its name and version is held, or if it arrives just so.
-    pub(crate) fn image(&mut self, transport: u16, header: &Header<'_>) -> Result<Answer, Fault>
+    // Takes an image header. With the name and version of a held slide it is a repeat if that was sent under its TransportId,
+    // else a changed header; another is a repeat if it arrives just so.
+    pub(crate) fn image<D: Display>(
+        &mut self,
+        display: &mut D,
+        memory: &[u8],
+        transport: u16,
+        header: &Header<'_>,
+    ) -> Result<Answer, Fault>
         requires { AnnouncesImage self.old.room (record_of header.now) }
-        ensures world { (m : Meaning) (memory : List ℕ) → (said result, world_of self.new memory m) ≡ image_step (world_of self.old memory m) transport (image_of (record_of header.now)) }
-        ensures refused { Stays (said result) self.old self.new }
+        ensures world { (said result, world_of self.new memory.now (D.Display.meaning display.new)) ≡ image_step (world_of self.old memory.now (D.Display.meaning display.old)) transport (record_of header.now) }
+        ensures reached { Reached D.Display.told display.old (image_effects (world_of self.old memory.now (D.Display.meaning display.old)) transport (record_of header.now)) display.new }
+        ensures refused { Stays (said result) self.old self.new × Stays (said result) display.old display.new }
     {
         let versioned = Versioned {
             name: header.name,
             version: version_of(header),
         };
         if let Some(k) = self.slots.find(&versioned) {
-            return Ok(Answer::Repeat(self.number_at(k)));
+            if SentUnder(transport).passes(self.slots.at(k)) {
+                return Ok(Answer::Repeat(self.number_at(k)));
+            }
+            return self.change(display, memory, k, transport, header);
         }
         let again = ComesAgain {
             transport,

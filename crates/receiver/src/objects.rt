@@ -14,10 +14,11 @@ use rules::answers::Answer;
 use slots::bodies::Sent;
 
 impl<D: Display, P> Receiver<D, P> {
-    // Takes a header that is sent under a TransportId: an image begins an object, an update changes a held slide.
+    // Takes a header that is sent under a TransportId: an image begins an object or is sent again for a held slide, an update
+    // changes a held slide.
     pub fn header(&mut self, memory: &[u8], transport: u16, bytes: &[u8]) -> Answer
         ensures world { (result, world D.Display.meaning self.new memory.now) ≡ header_step (world D.Display.meaning self.old memory.now) transport bytes.now }
-        ensures shows { Reached D.Display.told self.old.display (header_effects (world D.Display.meaning self.old memory.now) bytes.now) self.new.display }
+        ensures shows { Reached D.Display.told self.old.display (header_effects (world D.Display.meaning self.old memory.now) transport bytes.now) self.new.display }
         ensures refused { Stays result self.old self.new }
     {
         self.parts

@@ -22,7 +22,7 @@ returns-in_err-header-clause-world g c =
 
 pub returns-in-Image-clause-world : goal.returns-in-Image-clause-world
 returns-in-Image-clause-world g c =
-    c.image.ensures.world (g.D.Display.meaning c.args.display.now) c.args.memory.now
+    c.image.ensures.world
     ∙ header_kind (world_of c.args.self.now c.args.memory.now (g.D.Display.meaning c.args.display.now)) c.args.transport c.args.bytes.now (record_of c.in_ok-header.header) Image c.in-Image.is (eq-eqb (length c.args.memory.now) (12 * c.args.self.now.room) c.in_ok-admit.ensures) c.in_ok-header.ensures.value
 
 pub returns-in-Update-clause-world : goal.returns-in-Update-clause-world
@@ -32,16 +32,16 @@ returns-in-Update-clause-world g c =
 
 pub returns-in_err-admit-clause-reached : goal.returns-in_err-admit-clause-reached
 returns-in_err-admit-clause-reached g c =
-    subst (λ es. Reached g.D.Display.told c.args.display.now es c.args.display.now) (header_misfit_tells (world_of c.args.self.now c.args.memory.now (g.D.Display.meaning c.args.display.now)) c.args.bytes.now (ne_eqb (length c.args.memory.now) (12 * c.args.self.now.room) c.in_err-admit.ensures.0)) refl
+    subst (λ es. Reached g.D.Display.told c.args.display.now es c.args.display.now) (header_misfit_tells (world_of c.args.self.now c.args.memory.now (g.D.Display.meaning c.args.display.now)) c.args.transport c.args.bytes.now (ne_eqb (length c.args.memory.now) (12 * c.args.self.now.room) c.in_err-admit.ensures.0)) refl
 
 pub returns-in_err-header-clause-reached : goal.returns-in_err-header-clause-reached
 returns-in_err-header-clause-reached g c =
-    subst (λ es. Reached g.D.Display.told c.args.display.now es c.args.display.now) (header_says_tells (world_of c.args.self.now c.args.memory.now (g.D.Display.meaning c.args.display.now)) c.args.bytes.now (Err c.in_err-header.field-0.0) (eq-eqb (length c.args.memory.now) (12 * c.args.self.now.room) c.in_ok-admit.ensures) c.in_err-header.ensures.value) refl
+    subst (λ es. Reached g.D.Display.told c.args.display.now es c.args.display.now) (header_says_tells (world_of c.args.self.now c.args.memory.now (g.D.Display.meaning c.args.display.now)) c.args.transport c.args.bytes.now (Err c.in_err-header.field-0.0) (eq-eqb (length c.args.memory.now) (12 * c.args.self.now.room) c.in_ok-admit.ensures) c.in_err-header.ensures.value) refl
 
 pub returns-in-Image-clause-reached : goal.returns-in-Image-clause-reached
 returns-in-Image-clause-reached g c =
-    subst (λ es. Reached g.D.Display.told c.args.display.now es c.args.display.now) (header_kind_tells (world_of c.args.self.now c.args.memory.now (g.D.Display.meaning c.args.display.now)) c.args.bytes.now (record_of c.in_ok-header.header) Image c.in-Image.is (eq-eqb (length c.args.memory.now) (12 * c.args.self.now.room) c.in_ok-admit.ensures) c.in_ok-header.ensures.value) refl
+    subst (λ es. Reached g.D.Display.told c.args.display.now es c.image.new.display) (header_kind_tells (world_of c.args.self.now c.args.memory.now (g.D.Display.meaning c.args.display.now)) c.args.transport c.args.bytes.now (record_of c.in_ok-header.header) Image c.in-Image.is (eq-eqb (length c.args.memory.now) (12 * c.args.self.now.room) c.in_ok-admit.ensures) c.in_ok-header.ensures.value) c.image.ensures.reached
 
 pub returns-in-Update-clause-reached : goal.returns-in-Update-clause-reached
 returns-in-Update-clause-reached g c =
-    subst (λ es. Reached g.D.Display.told c.args.display.now es c.update.new.display) (header_kind_tells (world_of c.args.self.now c.args.memory.now (g.D.Display.meaning c.args.display.now)) c.args.bytes.now (record_of c.in_ok-header.header) Update c.in-Update.is (eq-eqb (length c.args.memory.now) (12 * c.args.self.now.room) c.in_ok-admit.ensures) c.in_ok-header.ensures.value) c.update.ensures.reached
+    subst (λ es. Reached g.D.Display.told c.args.display.now es c.update.new.display) (header_kind_tells (world_of c.args.self.now c.args.memory.now (g.D.Display.meaning c.args.display.now)) c.args.transport c.args.bytes.now (record_of c.in_ok-header.header) Update c.in-Update.is (eq-eqb (length c.args.memory.now) (12 * c.args.self.now.room) c.in_ok-admit.ensures) c.in_ok-header.ensures.value) c.update.ensures.reached
