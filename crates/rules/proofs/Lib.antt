@@ -17,5 +17,6 @@ mod Histories
 mod Outcomes
 pub mod Stand
 mod Computed
+mod Changed
 pub mod Shots
 pub mod Reaching
