@@ -28,6 +28,10 @@ pub enum Call<'a> {
     Body { accession: u32 },
     // the card that the display shows
     Card,
+    // the card's byte at an index from 0
+    CardByte { at: usize },
+    // the size of a slot, in bytes
+    SlotSize,
 }
 
 // What a call answers.
@@ -45,6 +49,10 @@ pub enum Reply {
     Bytes(Result<Vec<u8>, Fault>),
     // to the question for the card
     Shows(Option<CardNumbers>),
+    // to the question for a byte of the card: none past its end or without a card
+    Byte(Option<u8>),
+    // to the question for the slot size
+    Size(u32),
 }
 
 impl Reply {

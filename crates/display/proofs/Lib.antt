@@ -1,3 +1,5 @@
+mod Entries
 mod Heads
+mod Multiples
 mod Taped
 pub mod Shown

@@ -4,3 +4,6 @@ pub mod Layering
 pub mod Frame
 pub mod Tape
 pub mod Lifted
+pub mod Lasting
+pub mod Taping
+pub mod Figures

@@ -34,6 +34,10 @@ pub record Keeps (m : Meaning) : Type 0 where
   pub within_lag : (t : ℕ) → t ≤ bound m → m.settle t ≤ t + m.lag
   pub in_order : (t u : ℕ) → t ≤ u → u ≤ bound m → m.settle t ≤ m.settle u
 
+-- what no show changes of a display: its frame, its lag, and how it settles moments
+abbrev pub Steady : Meaning → Meaning → Type 0
+Steady m n = (n.frame ≡ m.frame) × (n.lag ≡ m.lag) × (n.settle ≡ m.settle)
+
 -- when a show is accepted
 abbrev pub Accepts : Meaning → ℕ → ℕ → List ℕ → Type 0
 Accepts m a t b = (0 < length b) × (length b ≤ m.frame) × (0 < a) × (t ≤ bound m)

@@ -1,6 +1,6 @@
 -- What a film means, by the bytes of its tape and where its last entry begins.
 use Rattle.std.specs.Prelude.{◌≡◌, ℕ, ◌+◌, ◌-◌, ◌*◌, ◌^◌, min, cond, List, ◌++◌, length, take, drop, Some, None, Option, nat_le}
-use Rattle.display.specs.Meaning.{Meaning, Card}
+use Rattle.display.specs.Meaning.{Meaning, Card, accepts}
 use Rattle.display.specs.declared.cards.CardNumbers.{CardNumbers}
 use Rattle.packed.specs.Bits.{whole, field, bytes_of}
 use Rattle.packed.specs.Parts.{pasted}
@@ -44,7 +44,20 @@ place_for tape last n = cond (nat_le (end_of tape last + 12 + n) (length tape)) 
 abbrev pub entry_bytes : ℕ → ℕ → List ℕ → List ℕ
 entry_bytes a s b = bytes_of 4 a ++ (bytes_of 8 (s * 2 ^ 20 + length b) ++ b)
 
--- an accepted show: the entry's bytes lie at its place and no other byte of the tape changes
+-- a tape's bytes, and where its last entry begins
+abbrev pub Reel : Type 0
+Reel = List ℕ × Option ℕ
+
+-- one entry more: its bytes lie at its place and no other byte of the tape changes
+abbrev pub entered : Reel → ℕ → ℕ → List ℕ → Reel
+entered r a s b = (pasted r.0 (place_for r.0 r.1 (length b)) (entry_bytes a s b), Some (place_for r.0 r.1 (length b)))
+
+-- an accepted show of a film
 abbrev pub Recorded : List ℕ → Option ℕ → ℕ → ℕ → List ℕ → List ℕ → Option ℕ → Type 0
 Recorded tape last a s b tape' last' =
-    (tape' ≡ pasted tape (place_for tape last (length b)) (entry_bytes a s b)) × (last' ≡ Some (place_for tape last (length b)))
+    (tape' ≡ (entered (tape, last) a s b).0) × (last' ≡ (entered (tape, last) a s b).1)
+
+-- the tape at the bottom of a display of this meaning, after a show: an accepted one is entered with the moment at which it
+-- really shows, a refused one leaves the tape
+abbrev pub recorded : Meaning → Reel → ℕ → ℕ → List ℕ → Reel
+recorded m r a t b = cond (accepts m a t b) (entered r a (m.settle t) b) r

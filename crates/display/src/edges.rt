@@ -19,9 +19,12 @@ impl Shift for Period {
         self.acting(lag) - 1
     }
 
-    fn later(&self, lag: u64, moment: u64) -> u64 {
+    fn later(&self, lag: u64, moment: u64) -> Option<u64> {
         let p = self.acting(lag);
-        moment.saturating_add(p - 1) / p * p
+        match moment % p {
+            0 => Some(moment),
+            over => moment.checked_add(p - over),
+        }
     }
 
     ghost not_early = { λ p lag t. edge_not_early p.value p.low lag t };

@@ -4,6 +4,7 @@ ghost use Rattle.display.specs.Meaning.{blank, ByShow};
 ghost use Rattle.display.specs.Tape.{film, end_of, head_at, place_for, entry_bytes, Recorded};
 ghost use Rattle.packed.specs.Parts.{pasted};
 ghost use Rattle.display.specs.Lifted.{film_keeps};
+ghost use Rattle.display.specs.Lasting.{film_steady};
 
 use crate::cards::CardNumbers;
 use crate::copying::copy_in;
@@ -100,6 +101,8 @@ impl Display for Film {
     ghost told = { λ f a t b g. ByShow (film f.tape.items f.last) a t b (Recorded f.tape.items f.last a t b g.tape.items g.last) (g ≡ f) };
 
     ghost keeps = { λ f. film_keeps f.tape.items f.last };
+
+    ghost steady = { λ f g a t b. film_steady f.tape.items g.tape.items f.last g.last a t b (λ e i. (e i).tape.items) };
 
     fn show(&mut self, accession: u32, moment: u64, body: &[u8]) -> Result<(), Fault> {
         let size = body.len();

@@ -19,8 +19,8 @@ impl Shift for Delay {
         self.acting(lag)
     }
 
-    fn later(&self, lag: u64, moment: u64) -> u64 {
-        moment.saturating_add(self.acting(lag))
+    fn later(&self, lag: u64, moment: u64) -> Option<u64> {
+        moment.checked_add(self.acting(lag))
     }
 
     ghost not_early = { λ d lag t. lag_not_early d.value lag t };

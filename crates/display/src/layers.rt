@@ -1,7 +1,8 @@
 // A layer: over any display, a layered one too, and a display again.
-ghost use Rattle.std.specs.Prelude.{◌≡◌, ℕ, ◌+◌, ◌≤◌};
+ghost use Rattle.std.specs.Prelude.{◌≡◌, ℕ, ◌+◌, ◌^◌, ◌<◌, ◌≤◌, SomeIff};
 ghost use Rattle.display.specs.Layering.{layer_over, Told, ToldBelow};
 ghost use Rattle.display.specs.Lifted.{layer_keeps};
+ghost use Rattle.display.specs.Lasting.{below_steady, layer_steady};
 
 use crate::cards::CardNumbers;
 use crate::{Display, LAST_MOMENT, SHOW_REFUSED};
@@ -19,9 +20,9 @@ pub trait Shift {
         ensures value { result ≡ most self.now lag }
         ensures bound { result ≤ 1000 };
 
-    // The moment put off, over a display of this lag; above the last moment of any display it may be any.
-    fn later(&self, lag: u64, moment: u64) -> u64
-        ensures { moment ≤ 17592186044415 → result ≡ later self.now lag moment };
+    // The moment put off, over a display of this lag; none where 64 bits do not hold it.
+    fn later(&self, lag: u64, moment: u64) -> Option<u64>
+        ensures { SomeIff result (later self.now lag moment < 2 ^ 64) (later self.now lag moment) };
 
     ghost not_early: { (x : Self) (lag t : ℕ) → t ≤ later x lag t };
 
@@ -46,6 +47,22 @@ impl<D: Display, S: Shift> Layer<D, S> {
         Layer { below, shift }
     }
 
+    // The display below, lent.
+    pub fn below(&self) -> &D
+        ensures { result.now ≡ self.now.below }
+    {
+        &self.below
+    }
+
+    // The display below, given back; the layer is gone.
+    pub fn into_below(self) -> D
+    where
+        S: Drop,
+        ensures { result ≡ self.below }
+    {
+        self.below
+    }
+
     // The moment that the display below is told, or none above the bound of a show.
     fn told(&self, moment: u64) -> Option<u64>
         ensures { Told (D.Display.meaning self.now.below).lag (S.Shift.most self.now.shift) (S.Shift.later self.now.shift) moment result }
@@ -54,7 +71,7 @@ impl<D: Display, S: Shift> Layer<D, S> {
         if moment > LAST_MOMENT - (lag + self.shift.most(lag)) {
             return None;
         }
-        Some(self.shift.later(lag, moment))
+        self.shift.later(lag, moment)
     }
 }
 
@@ -64,6 +81,8 @@ impl<D: Display, S: Shift> Display for Layer<D, S> {
     ghost told = { λ l a t b n. ToldBelow D.Display.told (D.Display.meaning l.below).lag (S.Shift.most l.shift) (S.Shift.later l.shift) l.below a t b n.below × (n.shift ≡ l.shift) };
 
     ghost keeps = { λ l. layer_keeps _ _ _ (S.Shift.not_early l.shift) (S.Shift.within l.shift) (S.Shift.in_order l.shift) (S.Shift.fits l.shift) (D.Display.keeps l.below) };
+
+    ghost steady = { λ l n a t b h. layer_steady S.Shift.most S.Shift.later l.shift n.shift (D.Display.meaning l.below) (D.Display.meaning n.below) h.1 (below_steady D.Display.told D.Display.meaning D.Display.steady (S.Shift.most l.shift) (S.Shift.later l.shift) l.below n.below a t b h.0) };
 
     fn show(&mut self, accession: u32, moment: u64, body: &[u8]) -> Result<(), Fault> {
         let later = self.told(moment).ok_or(SHOW_REFUSED)?;

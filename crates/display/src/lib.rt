@@ -2,7 +2,7 @@
 #![tactic(auto)]
 
 ghost use Rattle.std.specs.Prelude.{◌≡◌, ℕ, List};
-ghost use Rattle.display.specs.Meaning.{Meaning, Keeps, Shows, Settles, numbers, Byte};
+ghost use Rattle.display.specs.Meaning.{Meaning, Keeps, Steady, Shows, Settles, numbers, Byte};
 
 pub mod cards;
 mod copying;
@@ -14,8 +14,10 @@ pub mod layers;
 pub mod panels;
 mod plain;
 pub mod settings;
+pub mod tapes;
 #[cfg(test)]
 mod tests;
+pub mod unmoved;
 
 use cards::CardNumbers;
 use refusal::Fault;
@@ -71,4 +73,6 @@ pub trait Display {
         ensures { Byte (meaning self.now).card at result };
 
     ghost keeps: { (x : Self) → Keeps (meaning x) };
+
+    ghost steady: { (d e : Self) (a t : ℕ) (b : List ℕ) → told d a t b e → Steady (meaning d) (meaning e) };
 }

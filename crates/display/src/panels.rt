@@ -3,6 +3,7 @@ ghost use Rattle.std.specs.Prelude.{◌≡◌, ℕ, ◌≤◌, min, None, vec_le
 ghost use Rattle.display.specs.Frame.{panel, used, Framed};
 ghost use Rattle.display.specs.Meaning.{blank, ByShow};
 ghost use Rattle.display.specs.Lifted.{panel_keeps};
+ghost use Rattle.display.specs.Lasting.{panel_steady};
 
 use crate::cards::CardNumbers;
 use crate::copying::copy_in;
@@ -34,6 +35,8 @@ impl Display for Panel {
     ghost told = { λ p a t b q. ByShow (panel p.memory.items p.held) a t b (Framed p.memory.items a t b q.memory.items q.held) (q ≡ p) };
 
     ghost keeps = { λ p. panel_keeps p.memory.items p.held };
+
+    ghost steady = { λ p q a t b. panel_steady p.memory.items q.memory.items p.held q.held a t b (λ e i. (e i).memory.items) };
 
     fn show(&mut self, accession: u32, moment: u64, body: &[u8]) -> Result<(), Fault> {
         let size = body.len();

@@ -5,7 +5,7 @@ use Rattle.calls.specs.Plain.{reply_of, fault_of}
 use Rattle.calls.specs.declared.Reply as plain
 use Rattle.display.specs.declared.cards.CardNumbers.{CardNumbers}
 use Rattle.refusal.specs.declared.Fault.{Fault}
-use Rattle.rules.specs.Calls.{Call, Reply, answered, counted, refused, found, placed, bytes, shows}
+use Rattle.rules.specs.Calls.{Call, Reply, answered, counted, refused, found, placed, bytes, shows, byte, sized}
 use Rattle.std.specs.Option.{option_map}
 use Rattle.records.specs.declared.facts.Line.{Line}
 
@@ -18,6 +18,8 @@ card_in (found n) = None
 card_in (placed p) = None
 card_in (bytes xs) = None
 card_in (shows c) = c
+card_in (byte b) = None
+card_in (sized n) = None
 
 -- the line of record n, with its refusal and the reply that tells the card
 abbrev pub line_of : ℕ → Option Fault → Reply → Line

@@ -108,6 +108,8 @@ module _ (w : World) where
   other_clock (calls.NextPlace p) h = refl
   other_clock (calls.Body n) h = refl
   other_clock calls.Card h = refl
+  other_clock (calls.CardByte i) h = refl
+  other_clock calls.SlotSize h = refl
 
   on_reading_clock : (r : Result Time Fault) → Climbs w (on_reading r w)
   on_reading_clock (Err e) = record { higher = omega arith }
@@ -151,3 +153,5 @@ module _ (w : World) where
   running_on (calls.NextPlace p) h = omega (arith, other_clock (calls.NextPlace p) tt)
   running_on (calls.Body n) h = omega (arith, other_clock (calls.Body n) tt)
   running_on calls.Card h = omega (arith, other_clock calls.Card tt)
+  running_on (calls.CardByte i) h = omega (arith, other_clock (calls.CardByte i) tt)
+  running_on calls.SlotSize h = omega (arith, other_clock calls.SlotSize tt)

@@ -1,19 +1,29 @@
 -- What each kind of call comes to as a step of the rules.
-use Rattle.std.proofs.Common.{◌≡◌, ℕ, ◌<◌, eqb, List, Ok, Err, Result, refl, sym, ap, ◌∙◌, arith}
+use Rattle.std.proofs.Common.{◌≡◌, ℕ, ◌<◌, eqb, List, Some, None, Ok, Err, Option, Result, refl, sym, ap, ◌∙◌, arith}
 use Rattle.calls.specs.Plain.{reply_of}
 use Rattle.calls.specs.declared.Reply.TheVariants.{Counted}
+use Rattle.display.specs.Meaning.{Card, Byte}
 use Rattle.receiver.specs.Views.{told}
 use Rattle.refusal.specs.declared.Fault.{Fault}
 use Rattle.rules.specs.Calls.{Reply, time}
 use Rattle.rules.specs.Clocks.{setting_step, reading_step}
 use Rattle.rules.specs.Effects.{setting_effects, reading_effects, effects}
+use Rattle.rules.specs.Questions.{card_byte_of}
 use Rattle.rules.specs.Runs.{step}
 use Rattle.rules.specs.Worlds.{World}
 use Rattle.std.proofs.lemmas.Bool.{cond-true, cond-false, eq-eqb, ne_eqb}
+use Rattle.std.proofs.lemmas.Option.{slice_get-get_or, slice_get_past}
 
 counted_is : (r : Result ℕ Fault) → reply_of (Counted r) ≡ told r
 counted_is (Ok n) = refl
 counted_is (Err e) = refl
+
+-- the byte that a display answers is the one of its card's body
+pub byte_is : (c : Option Card) (i : ℕ) (r : Option ℕ) → Byte c i r → r ≡ card_byte_of c i
+byte_is None i None h = refl
+byte_is None i (Some b) h = absurd h
+byte_is (Some c) i None h = sym (slice_get_past c.body i h)
+byte_is (Some c) i (Some b) h = ap Some h.1 ∙ sym (slice_get-get_or c.body i _ h.0)
 
 module _ (w : World) where
   -- a time field is a reading of a clock that runs, and a setting of one that does not

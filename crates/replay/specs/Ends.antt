@@ -34,6 +34,8 @@ NoTime (calls.FindName n) = Unit {0}
 NoTime (calls.NextPlace p) = Unit {0}
 NoTime (calls.Body n) = Unit {0}
 NoTime calls.Card = Unit {0}
+NoTime (calls.CardByte i) = Unit {0}
+NoTime calls.SlotSize = Unit {0}
 
 -- a replay over a display that means m, with slots of at most that size and that body memory
 pub record Replays (m : Meaning) (size : ℕ) (memory : List ℕ) (cs : List rules.Call) (replies : List rules.Reply) (end : World) : Type 0 where

@@ -54,6 +54,8 @@ pub(crate) fn ask<D: Display, P>(
         Call::NextPlace { place } => Ok(Reply::Placed(receiver.next_place(*place))),
         Call::Body { accession } => body(heap, receiver, memory, *accession),
         Call::Card => Ok(Reply::Shows(receiver.card())),
+        Call::CardByte { at } => Ok(Reply::Byte(receiver.card_byte(*at))),
+        Call::SlotSize => Ok(Reply::Size(receiver.slot_size())),
     }
 }
 

@@ -23,7 +23,7 @@ use Rattle.packed.specs.Parts.{pasted}
 use Rattle.refusal.specs.declared.Fault.{Fault}
 use Rattle.refusal.specs.declared.causes.Cause.TheVariants.{HeaderCut}
 use Rattle.rules.specs.Assembly.{put, received, filed, told_filing, on_landing, segment_of, segment_step}
-use Rattle.rules.specs.Calls.{Call, header, segment, time, find_name, next_place, body_of, card, Reply, answered, counted}
+use Rattle.rules.specs.Calls.{Call, header, segment, time, find_name, next_place, body_of, card, card_byte, slot_size, Reply, answered, counted}
 use Rattle.rules.specs.Clocks.{prepared, expired, tick, walk, walked, set_to, on_setting, on_reading, setting_step, reading_step, time_step}
 use Rattle.rules.specs.Effects.{filed_effects, tick_effects, walk_effects}
 use Rattle.rules.specs.Headers.{slot_for, begun, resent, image_step, told_update, recategorised, amended, update_step, by_kind, on_header, header_step, idle}
@@ -553,6 +553,8 @@ module _ (m : Meaning) (keeps : Keeps m) where
   nexts w l (next_place c) sound h = h
   nexts w l (body_of n) sound h = h
   nexts w l card sound h = h
+  nexts w l (card_byte i) sound h = h
+  nexts w l slot_size sound h = h
 
   pub runs : (cs : List Call) (w : World) (l : Ledger) → Sound w.state → Follows m w l → Follows m (after w cs) (ledger l cs (replies w cs))
   runs [] w l sound h = h

@@ -17,7 +17,7 @@ use Rattle.rules.proofs.Kept.{sound_step, sound_recategorised, recategorised_slo
 use Rattle.rules.proofs.Sounds.{sound_vacate, sound_filtered, sound_received, resent_slot, sound_resent}
 use Rattle.rules.specs.Assembly.{received, told_filing, on_landing, segment_of, segment_step}
 use Rattle.refusal.specs.declared.causes.Cause.TheVariants.{ReadingBelowClock}
-use Rattle.rules.specs.Calls.{Call, header, segment, time, find_name, next_place, body_of, card, Reply, answered, counted, refused}
+use Rattle.rules.specs.Calls.{Call, header, segment, time, find_name, next_place, body_of, card, card_byte, slot_size, Reply, answered, counted, refused}
 use Rattle.rules.specs.Clocks.{prepared, expired, walk, walked, on_setting, on_reading, setting_step, reading_step, time_step}
 use Rattle.rules.specs.Effects.{arming_effects, due_effects, on_setting_effects, on_reading_effects, setting_effects, reading_effects, time_effects, amended_effects, image_effects, update_effects, by_kind_effects, on_header_effects, header_effects, landing_effects, segment_effects, walk_effects, effects, all_effects}
 use Rattle.rules.specs.Headers.{receiver_fault, slot_for, resent, image_step, told_update, recategorised, amended, update_step, by_kind, on_header, header_step}
@@ -207,6 +207,8 @@ module _ (m : Meaning) (keeps : Keeps m) where
   grows w l (next_place c) sound h = still l
   grows w l (body_of n) sound h = still l
   grows w l card sound h = still l
+  grows w l (card_byte i) sound h = still l
+  grows w l slot_size sound h = still l
 
   runs_on : (cs : List Call) (w : World) (l : Ledger) → Sound w.state → Follows m w l → (ledger l cs (replies w cs)).history ≡ l.history ++ all_effects w cs
   runs_on [] w l sound h = still l

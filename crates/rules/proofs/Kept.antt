@@ -13,7 +13,7 @@ use Rattle.moment.specs.declared.times.Time.{Time}
 use Rattle.moment.specs.declared.times.Time.TheVariants as times
 use Rattle.refusal.specs.declared.Fault.{Fault}
 use Rattle.rules.specs.Assembly.{put, received, on_landing, segment_of, segment_step}
-use Rattle.rules.specs.Calls.{Call, header, segment, time, find_name, next_place, body_of, card, Reply, answered, refused}
+use Rattle.rules.specs.Calls.{Call, header, segment, time, find_name, next_place, body_of, card, card_byte, slot_size, Reply, answered, refused}
 use Rattle.rules.specs.Clocks.{tick, walk, on_setting, on_reading, setting_step, reading_step, time_step}
 use Rattle.rules.specs.Headers.{slot_for, resent, image_step, recategorised, told_update, amended, update_step, by_kind, on_header, header_step}
 use Rattle.rules.specs.Laws.{CountOn, given_by, given_in, NumbersRise, on_taken}
@@ -251,6 +251,8 @@ module _ (w : World) (h : Sound w.state) where
   goes (next_place p) = still w (next_place p) _ h (λ ns. refl)
   goes (body_of n) = still w (body_of n) _ h (λ ns. refl)
   goes card = still w card _ h (λ ns. refl)
+  goes (card_byte i) = still w (card_byte i) _ h (λ ns. refl)
+  goes slot_size = still w slot_size _ h (λ ns. refl)
 
 pub sound_step : (w : World) (c : Call) → Sound w.state → Sound (step w c).1.state
 sound_step w c h = (goes w h c).sound

@@ -5,7 +5,7 @@ use Rattle.moment.specs.Field.{time_of}
 use Rattle.moment.specs.declared.times.Time.{Time}
 use Rattle.moment.specs.declared.times.Time.TheVariants.{Now, At}
 use Rattle.refusal.specs.declared.Fault.{Fault}
-use Rattle.rules.specs.Calls.{Call, header, segment, time, find_name, next_place, body_of, card, Reply, answered, counted, refused, found, placed, bytes, shows}
+use Rattle.rules.specs.Calls.{Call, header, segment, time, find_name, next_place, body_of, card, card_byte, slot_size, Reply, answered, counted, refused, found, placed, bytes, shows, byte, sized}
 use Rattle.rules.specs.Laws.{NeverFalls}
 use Rattle.rules.specs.Ledgers.{Ledger, ledger, entered, pass, instant, happen, leave, start, arming, effect_of, said, on_said, on_answer, on_answered, on_counted, moved_to, kept, filed_in}
 use Rattle.rules.specs.Triggers.{Verdict, nothing, effect, late, wait, verdict, Effect}
@@ -102,6 +102,8 @@ on_answered_fine (found o) l f h i = h
 on_answered_fine (placed o) l f h i = h
 on_answered_fine (bytes xs) l f h i = h
 on_answered_fine (shows c) l f h i = h
+on_answered_fine (byte b) l f h i = h
+on_answered_fine (sized n) l f h i = h
 
 on_counted_fine : (r : Reply) (l m : Ledger) → Fine l → Fine m → Fine (on_counted r l m)
 on_counted_fine (answered a) l m h i = h
@@ -111,6 +113,8 @@ on_counted_fine (found o) l m h i = h
 on_counted_fine (placed o) l m h i = h
 on_counted_fine (bytes xs) l m h i = h
 on_counted_fine (shows c) l m h i = h
+on_counted_fine (byte b) l m h i = h
+on_counted_fine (sized n) l m h i = h
 
 on_said_fine : (r : Result HeaderRecord Fault) (l : Ledger) (f : HeaderRecord → Ledger) → Fine l → ((x : HeaderRecord) → Fine (f x)) → Fine (on_said r l f)
 on_said_fine (Err e) l f h i = h
@@ -137,6 +141,8 @@ entered_fine l (find_name n) r h = h
 entered_fine l (next_place c) r h = h
 entered_fine l (body_of n) r h = h
 entered_fine l card r h = h
+entered_fine l (card_byte i) r h = h
+entered_fine l slot_size r h = h
 
 pub ledger_fine : (cs : List Call) (rs : List Reply) (l : Ledger) → Fine l → Fine (ledger l cs rs)
 ledger_fine [] rs l h = h

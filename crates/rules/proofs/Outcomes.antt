@@ -12,7 +12,7 @@ use Rattle.refusal.specs.declared.Fault.{Fault}
 use Rattle.rules.proofs.Finds.{cond_two, on_some_two, on_arriving_two, on_some_both}
 use Rattle.rules.proofs.Passes.{show_all_append}
 use Rattle.rules.specs.Assembly.{put, received, filed, on_landing, segment_of, segment_step}
-use Rattle.rules.specs.Calls.{header, segment, time, find_name, next_place, body_of, card, Reply, counted, refused}
+use Rattle.rules.specs.Calls.{header, segment, time, find_name, next_place, body_of, card, card_byte, slot_size, Reply, counted, refused}
 use Rattle.rules.specs.Clocks.{tick, ticked, walk, walked, on_setting, on_reading, setting_step, reading_step, time_step}
 use Rattle.rules.specs.Effects.{arming_effects, tick_effects, walk_effects, on_setting_effects, on_reading_effects, setting_effects, reading_effects, time_effects, amended_effects, by_kind_effects, on_header_effects, header_effects, filed_effects, landing_effects, segment_effects, effects}
 use Rattle.rules.specs.Headers.{slot_for, recategorised, resent, amended, by_kind, on_header, header_step}
@@ -138,6 +138,8 @@ shown w (find_name n) = refl
 shown w (next_place c) = refl
 shown w (body_of n) = refl
 shown w card = refl
+shown w (card_byte i) = refl
+shown w slot_size = refl
 
 -- a reply that counts, if it does, counts these
 record Counts (o : Reply) (es : List Effect) : Type 0 where
@@ -181,3 +183,5 @@ counted_effects w (body_of i) n e = go (body_of_number w i) e
     go (Ok xs) e = let z : ◌≡◌ {A = ℕ} 0 1 = cc in absurd (omega arith)
     go (Err d) e = let z : ◌≡◌ {A = ℕ} 0 1 = cc in absurd (omega arith)
 counted_effects w card n e = let z : ◌≡◌ {A = ℕ} 0 1 = cc in absurd (omega arith)
+counted_effects w (card_byte i) n e = let z : ◌≡◌ {A = ℕ} 0 1 = cc in absurd (omega arith)
+counted_effects w slot_size n e = let z : ◌≡◌ {A = ℕ} 0 1 = cc in absurd (omega arith)

@@ -8,7 +8,7 @@ use Rattle.moment.specs.declared.times.Time.{Time}
 use Rattle.moment.specs.declared.times.Time.TheVariants.{Now, At}
 use Rattle.refusal.specs.declared.Fault.{Fault}
 use Rattle.rules.specs.Assembly.{put, received, on_arriving, segment_of}
-use Rattle.rules.specs.Calls.{Call, header, segment, time, find_name, next_place, body_of, card}
+use Rattle.rules.specs.Calls.{Call, header, segment, time, find_name, next_place, body_of, card, card_byte, slot_size}
 use Rattle.rules.specs.Clocks.{expired, walk, prepared}
 use Rattle.rules.specs.Headers.{on_some, recategorised, resent}
 use Rattle.rules.specs.Runs.{step}
@@ -114,6 +114,8 @@ effects w (find_name n) = []
 effects w (next_place c) = []
 effects w (body_of n) = []
 effects w card = []
+effects w (card_byte i) = []
+effects w slot_size = []
 
 abbrev pub all_effects : World → List Call → List Effect
 all_effects w [] = []

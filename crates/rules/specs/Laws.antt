@@ -3,7 +3,7 @@ use Rattle.std.specs.Prelude.{◌≡◌, ℕ, suc, ◌+◌, ◌<◌, ◌≤◌, 
 use Rattle.display.specs.Meaning.{Meaning, Card, Keeps, accepts}
 use Rattle.moment.specs.Field.{time_of}
 use Rattle.moment.specs.declared.times.Time.TheVariants.{At}
-use Rattle.rules.specs.Calls.{Call, header, segment, time, find_name, next_place, body_of, card, Reply, answered, counted, refused, found, placed, bytes, shows}
+use Rattle.rules.specs.Calls.{Call, header, segment, time, find_name, next_place, body_of, card, card_byte, slot_size, Reply, answered, counted, refused, found, placed, bytes, shows, byte, sized}
 use Rattle.rules.specs.Effects.{effects, all_effects}
 use Rattle.rules.specs.Ledgers.{Ledger, blank, ledger}
 use Rattle.rules.specs.Runs.{opened, after, replies, step}
@@ -107,6 +107,8 @@ on_taken (found o) ns = ns
 on_taken (placed o) ns = ns
 on_taken (bytes xs) ns = ns
 on_taken (shows c) ns = ns
+on_taken (byte b) ns = ns
+on_taken (sized n) ns = ns
 
 abbrev pub given_by : Call → Reply → List ℕ → List ℕ
 given_by (header t xs) r ns = on_taken r ns
@@ -116,6 +118,8 @@ given_by (find_name n) r ns = ns
 given_by (next_place c) r ns = ns
 given_by (body_of n) r ns = ns
 given_by card r ns = ns
+given_by (card_byte i) r ns = ns
+given_by slot_size r ns = ns
 
 abbrev pub given_in : List Call → List Reply → List ℕ
 given_in [] rs = []

@@ -7,7 +7,7 @@ use Rattle.moment.specs.Field.{time_of}
 use Rattle.moment.specs.declared.times.Time.{Time}
 use Rattle.moment.specs.declared.times.Time.TheVariants.{Now, At}
 use Rattle.refusal.specs.declared.Fault.{Fault}
-use Rattle.rules.specs.Calls.{Call, header, segment, time, find_name, next_place, body_of, card, Reply, answered, counted, refused, found, placed, bytes, shows}
+use Rattle.rules.specs.Calls.{Call, header, segment, time, find_name, next_place, body_of, card, card_byte, slot_size, Reply, answered, counted, refused, found, placed, bytes, shows, byte, sized}
 use Rattle.rules.specs.Triggers.{Verdict, nothing, effect, late, wait, verdict, Effect}
 use Rattle.rules.specs.declared.answers.Answer.{Answer}
 use Rattle.rules.specs.declared.answers.Answer.TheVariants.{Taken, Repeat, Filed, Shown, Late, Changed, Refused}
@@ -121,6 +121,8 @@ on_answered (found o) l f = l
 on_answered (placed o) l f = l
 on_answered (bytes xs) l f = l
 on_answered (shows c) l f = l
+on_answered (byte b) l f = l
+on_answered (sized n) l f = l
 
 abbrev pub on_counted : Reply → Ledger → Ledger → Ledger
 on_counted (answered a) l m = l
@@ -130,6 +132,8 @@ on_counted (found o) l m = l
 on_counted (placed o) l m = l
 on_counted (bytes xs) l m = l
 on_counted (shows c) l m = l
+on_counted (byte b) l m = l
+on_counted (sized n) l m = l
 
 -- an accepted time field moves the clock to its moment
 abbrev pub moved_to : Result Time Fault → Ledger → Ledger
@@ -147,6 +151,8 @@ entered l (find_name n) r = l
 entered l (next_place c) r = l
 entered l (body_of n) r = l
 entered l card r = l
+entered l (card_byte i) r = l
+entered l slot_size r = l
 
 -- before the first call
 abbrev pub blank : Ledger

@@ -1,6 +1,6 @@
 -- What the questions answer. They change nothing.
-use Rattle.std.specs.Prelude.{ℕ, cond, List, Some, None, Ok, Err, Option, Result}
-use Rattle.display.specs.Meaning.{numbers}
+use Rattle.std.specs.Prelude.{ℕ, cond, List, Some, None, Ok, Err, Option, Result, slice_get}
+use Rattle.display.specs.Meaning.{Card, numbers}
 use Rattle.display.specs.declared.cards.CardNumbers.{CardNumbers}
 use Rattle.header.specs.Names.{NameRecord}
 use Rattle.refusal.specs.declared.Fault.{Fault}
@@ -29,3 +29,8 @@ body_of_number w n =
 
 abbrev pub card_numbers : World → Option CardNumbers
 card_numbers w = numbers w.display.card
+
+-- the card's byte at an index from 0, or none past its end or without a card
+abbrev pub card_byte_of : Option Card → ℕ → Option ℕ
+card_byte_of None i = None
+card_byte_of (Some c) i = slice_get c.body i

@@ -3,10 +3,10 @@ use Rattle.std.specs.Prelude.{ℕ, min, List, [], ◌∷◌, replicate, Ok, Err,
 use Rattle.display.specs.Meaning.{Meaning}
 use Rattle.refusal.specs.declared.Fault.{Fault}
 use Rattle.rules.specs.Assembly.{segment_step}
-use Rattle.rules.specs.Calls.{Call, header, segment, time, find_name, next_place, body_of, card, Reply, answered, refused, found, placed, bytes, shows}
+use Rattle.rules.specs.Calls.{Call, header, segment, time, find_name, next_place, body_of, card, card_byte, slot_size, Reply, answered, refused, found, placed, bytes, shows, byte, sized}
 use Rattle.rules.specs.Clocks.{time_step}
 use Rattle.rules.specs.Headers.{header_step}
-use Rattle.rules.specs.Questions.{number_of_name, place_above, body_of_number, card_numbers}
+use Rattle.rules.specs.Questions.{number_of_name, place_above, body_of_number, card_numbers, card_byte_of}
 use Rattle.rules.specs.Worlds.{World}
 use Rattle.rules.specs.declared.answers.Answer.{Answer}
 use Rattle.slots.specs.Slides.{free}
@@ -32,6 +32,8 @@ step w (find_name n) = (found (number_of_name w n), w)
 step w (next_place c) = (placed (place_above w c), w)
 step w (body_of n) = (as_bytes (body_of_number w n), w)
 step w card = (shows (card_numbers w), w)
+step w (card_byte i) = (byte (card_byte_of w.display.card i), w)
+step w slot_size = (sized w.state.room, w)
 
 -- a list of calls, one after the other
 abbrev pub after : World → List Call → World

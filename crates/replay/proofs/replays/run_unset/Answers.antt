@@ -2,7 +2,7 @@ use Rattle.std.proofs.Common.{◌≡◌, ℕ, List, map, get_or, vec_items, sym,
 use Rattle.std.proofs.lemmas.List.{take_rest}
 use Rattle.calls.specs.Plain.{call_of, reply_of}
 use Rattle.calls.specs.declared.Call.{Call}
-use Rattle.calls.specs.declared.Call.TheVariants.{Header, Segment, Time, FindName, NextPlace, Body, Card}
+use Rattle.calls.specs.declared.Call.TheVariants.{Header, Segment, Time, FindName, NextPlace, Body, Card, CardByte, SlotSize}
 use Rattle.calls.specs.declared.Reply.TheVariants.{Counted}
 use Rattle.receiver.specs.Receivers.{world}
 use Rattle.replay.proofs.Clocked.{started_above, other_clock}
@@ -24,6 +24,8 @@ no_time (FindName n) h = tt
 no_time (NextPlace p) h = tt
 no_time (Body n) h = tt
 no_time Card h = tt
+no_time (CardByte i) h = tt
+no_time SlotSize h = tt
 
 pub run_on-requires : goal.run_on-requires
 run_on-requires g c =
