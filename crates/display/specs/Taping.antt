@@ -8,10 +8,10 @@ use Rattle.display.specs.Tape.{Reel, film, entered, Recorded, recorded}
 use Rattle.display.specs.Layering.{layer_over, ToldBelow}
 use Rattle.display.specs.Lasting.{by_show, by_below}
 
-accepted : (m : Meaning) (r : Reel) (a t : ℕ) (b : List ℕ) → Accepts m a t b → recorded m r a t b ≡ entered r a (m.settle t) b
+pub accepted : (m : Meaning) (r : Reel) (a t : ℕ) (b : List ℕ) → Accepts m a t b → recorded m r a t b ≡ entered r a (m.settle t) b
 accepted m r a t b k = let e : accepts m a t b ≡ true = grind (arith, nat_tests) in cond-true (accepts m a t b) _ r e
 
-refused : (m : Meaning) (r : Reel) (a t : ℕ) (b : List ℕ) → (Accepts m a t b → ⊥) → recorded m r a t b ≡ r
+pub refused : (m : Meaning) (r : Reel) (a t : ℕ) (b : List ℕ) → (Accepts m a t b → ⊥) → recorded m r a t b ≡ r
 refused m r a t b k = let e : accepts m a t b ≡ false = grind (arith, nat_tests) in cond-false (accepts m a t b) _ r e
 
 -- displays that are alike in all that no show changes record alike

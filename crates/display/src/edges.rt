@@ -19,6 +19,7 @@ impl Shift for Period {
         self.acting(lag) - 1
     }
 
+    #[tactic(auto, using(crate::proofs::Multiples::up_at, crate::proofs::Multiples::up_over))]
     fn later(&self, lag: u64, moment: u64) -> Option<u64> {
         let p = self.acting(lag);
         match moment % p {

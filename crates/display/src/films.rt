@@ -1,6 +1,6 @@
 // The film: a display that appends each card to a tape and reads it back from the tape's own bytes.
 ghost use Rattle.std.specs.Prelude.{◌≡◌, ℕ, ◌+◌, ◌-◌, ◌^◌, ◌<◌, ◌≤◌, min, length, None, vec_len};
-ghost use Rattle.display.specs.Meaning.{blank, ByShow};
+ghost use Rattle.display.specs.Meaning.{blank, shown, Accepts, ByShow};
 ghost use Rattle.display.specs.Tape.{film, end_of, head_at, place_for, entry_bytes, Recorded};
 ghost use Rattle.packed.specs.Parts.{pasted};
 ghost use Rattle.display.specs.Lifted.{film_keeps};
@@ -78,6 +78,17 @@ impl Film {
             0
         }
     }
+
+    // Writes an entry at its place.
+    fn append(&mut self, accession: u32, since: u64, body: &[u8])
+        requires { Accepts (film self.old.tape.items self.old.last) accession since body.now }
+        ensures recorded { Recorded self.old.tape.items self.old.last accession since body.now self.new.tape.items self.new.last }
+        ensures means { film self.new.tape.items self.new.last ≡ shown (film self.old.tape.items self.old.last) accession since body.now }
+    {
+        let at = self.place(body.len());
+        write_entry(&mut self.tape, at, accession, since, body);
+        self.last = Some(at);
+    }
 }
 
 // Writes an entry on the tape, where it fits.
@@ -105,11 +116,8 @@ impl Display for Film {
     ghost steady = { λ f g a t b. film_steady f.tape.items g.tape.items f.last g.last a t b (λ e i. (e i).tape.items) };
 
     fn show(&mut self, accession: u32, moment: u64, body: &[u8]) -> Result<(), Fault> {
-        let size = body.len();
-        admit(self.frame(), accession, moment, size)?;
-        let at = self.place(size);
-        write_entry(&mut self.tape, at, accession, moment, body);
-        self.last = Some(at);
+        admit(self.frame(), accession, moment, body.len())?;
+        self.append(accession, moment, body);
         Ok(())
     }
 

@@ -60,7 +60,8 @@ impl<D: Display, S: Shift> Layer<D, S> {
         S: Drop,
         ensures { result ≡ self.below }
     {
-        self.below
+        let Layer { below, .. } = self;
+        below
     }
 
     // The moment that the display below is told, or none above the bound of a show.

@@ -1,11 +1,13 @@
 // Displays that write on a film's tape in the end: a film, and any pile of layers over one.
 ghost use Rattle.std.specs.Prelude.{◌≡◌, ℕ, List, refl};
+ghost use Rattle.display.specs.Meaning.{Shows};
 ghost use Rattle.display.specs.Tape.{Reel, film_card, recorded};
 ghost use Rattle.display.specs.Taping.{film_records, layer_records};
 
 use crate::Display;
 use crate::films::Film;
 use crate::layers::{Layer, Shift};
+use refusal::Fault;
 
 // A display with a film at the bottom, of which it gives the film back. What a show writes on the tape follows from what the
 // display means: an accepted one an entry with the moment at which it really shows, a refused one nothing.
@@ -44,4 +46,20 @@ impl<D: Taped, S: Shift + Drop> Taped for Layer<D, S> {
     fn into_film(self) -> Film {
         self.into_below().into_film()
     }
+}
+
+// Shows on such a display: one entry more on the tape where the show is accepted, the very same tape where it
+// is refused. The card is the tape's last entry.
+pub fn show_on_tape<D: Taped>(
+    display: &mut D,
+    accession: u32,
+    moment: u64,
+    body: &[u8],
+) -> Result<(), Fault>
+    ensures shows { Shows (D.Display.meaning display.old) accession moment body.now result (D.Display.meaning display.new) }
+    ensures tells { D.Display.told display.old accession moment body.now display.new }
+    ensures records { D.Taped.reel display.new ≡ recorded (D.Display.meaning display.old) (D.Taped.reel display.old) accession moment body.now }
+    ensures last { (D.Display.meaning display.new).card ≡ film_card (D.Taped.reel display.new).0 (D.Taped.reel display.new).1 }
+{
+    display.show(accession, moment, body)
 }
