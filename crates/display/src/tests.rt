@@ -4,8 +4,11 @@ use crate::cards::CardNumbers;
 use crate::edges::Edge;
 use crate::films::Film;
 use crate::lags::Lag;
+use crate::layers::Shift;
 use crate::panels::Panel;
 use crate::settings::{Delay, Period};
+use crate::tapes::{Taped, show_on_tape};
+use crate::unmoved::show_or_leave;
 use refusal::Fault;
 use refusal::causes::{Cause, Layer};
 use std::alloc::{AllocError, Global};
@@ -156,6 +159,35 @@ fn order_of_layers(rt: HostRuntime) -> Result<(), Fail> {
         length: 1,
     };
     assert_eq!(rt; a.card(), Some(card));
+    Ok(())
+}
+
+#[test]
+fn film_below_layers(rt: HostRuntime) -> Result<(), Fail> {
+    let film = Film::new(zeros(rt.alloc(), 15)?);
+    let mut glass = Lag::new(Edge::new(film, Period::new(16)?), Delay::new(10)?);
+    assert!(rt; show_on_tape(&mut glass, 1, 1000, b"abc").is_ok());
+    assert!(rt; show_or_leave(&mut glass, 2, LAST - 24, b"x").is_err());
+    assert_eq!(rt; glass.below().below().byte(2), Some(b'c'));
+    assert_eq!(rt;
+        glass.into_film().tape(),
+        b"\x00\x00\x00\x01\x00\x00\x00\x00\x40\x00\x00\x03abc".as_slice()
+    );
+    Ok(())
+}
+
+#[test]
+fn moments_put_off_past_64_bits(rt: HostRuntime) -> Result<(), Fail> {
+    let p = Period::new(10)?;
+    let d = Delay::new(1)?;
+    assert_eq!(rt;
+        [p.later(0, u64::MAX - 5), p.later(0, u64::MAX - 4)],
+        [Some(u64::MAX - 5), None]
+    );
+    assert_eq!(rt;
+        [d.later(0, u64::MAX - 1), d.later(0, u64::MAX)],
+        [Some(u64::MAX), None]
+    );
     Ok(())
 }
 

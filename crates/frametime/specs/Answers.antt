@@ -1,14 +1,12 @@
--- What the program answers to one line of its input.
-use Rattle.std.specs.Prelude.{◌≡◌, ℕ, List, Some, None, Ok, Err, Option, Result}
-use Rattle.std.specs.List.{AllZip}
+-- What the program answers to the lines of its input, for a period and a delay.
+use Rattle.std.specs.Prelude.{ℕ, List, map, cond, Some, None, Ok, Err, Option, Result, nat_le}
 use Rattle.display.specs.Layering.{edge_over, lag_over}
-use Rattle.display.specs.Meaning.{Meaning, blank, Settles}
+use Rattle.display.specs.Meaning.{Meaning, blank, bound}
 use Rattle.frametime.specs.declared.lines.Frames.{Frames}
 use Rattle.frametime.specs.declared.lines.NoTime.{NoTime}
 use Rattle.frametime.specs.declared.lines.NoTime.TheVariants.{NotHexadecimal, Refused}
 use Rattle.frametime.specs.declared.lines.Shown.{Shown}
 use Rattle.frametime.specs.declared.lines.Shown.TheVariants.{AtOnce, Settled}
-use Rattle.frametime.specs.declared.timings.Timing.{Timing}
 use Rattle.hexpairs.specs.Text.{bytes_of}
 use Rattle.moment.specs.Days.{split_of}
 use Rattle.moment.specs.Field.{time_of}
@@ -20,26 +18,27 @@ use Rattle.refusal.specs.declared.Fault.{Fault}
 abbrev pub plain : Meaning
 plain = blank 0
 
--- when each pile of displays shows what is told for the moment m
-pub record ShowsAt (t : Timing) (m : ℕ) (f : Frames) : Type 0 where
-  pub moment : f.moment ≡ m
-  pub split : (f.day, f.millis) ≡ split_of m
-  pub panel : Settles plain m f.panel
-  pub edge : Settles (edge_over t.period.value plain) m f.edge
-  pub lag_over_edge : Settles (lag_over t.delay.value (edge_over t.period.value plain)) m f.lag_over_edge
-  pub edge_over_lag : Settles (edge_over t.period.value (lag_over t.delay.value plain)) m f.edge_over_lag
+-- when a display shows what it is told for the moment m; none above the bound of a show
+abbrev pub settled : Meaning → ℕ → Option ℕ
+settled d m = cond (nat_le m (bound d)) (Some (d.settle m)) None
 
--- the answer to what a time field says
-abbrev pub Told : Timing → Result Time Fault → Result Shown NoTime → Type 0
-Told t (Err e) a = a ≡ Err (Refused e)
-Told t (Ok Now) a = a ≡ Ok AtOnce
-Told t (Ok (At m)) a = (f : Frames) × (a ≡ Ok (Settled f)) × ShowsAt t m f
+module _ (period delay : ℕ) where
+  -- the moment m, its day and milliseconds, and when each pile of displays shows what is told for it
+  unfoldable pub frames_at : ℕ → Frames
+  frames_at m =
+      record { moment = m; day = (split_of m).0; millis = (split_of m).1; panel = settled plain m; edge = settled (edge_over period plain) m; lag_over_edge = settled (lag_over delay (edge_over period plain)) m; edge_over_lag = settled (edge_over period (lag_over delay plain)) m }
 
--- the answer to the bytes of a line, or to a line that spells none
-abbrev pub Answers : Timing → Option (List ℕ) → Result Shown NoTime → Type 0
-Answers t None a = a ≡ Err NotHexadecimal
-Answers t (Some xs) a = Told t (time_of xs) a
+  -- the answer to what a time field says
+  abbrev pub told : Result Time Fault → Result Shown NoTime
+  told (Err e) = Err (Refused e)
+  told (Ok Now) = Ok AtOnce
+  told (Ok (At m)) = Ok (Settled (frames_at m))
 
--- an answer for each line, in order
-abbrev pub EachAnswered : Timing → List (List ℕ) → List (Result Shown NoTime) → Type 0
-EachAnswered t = AllZip (λ text a. Answers t (bytes_of text) a)
+  -- the answer to the bytes of a line, or to a line that spells none
+  abbrev pub answer_to : Option (List ℕ) → Result Shown NoTime
+  answer_to None = Err NotHexadecimal
+  answer_to (Some xs) = told (time_of xs)
+
+  -- an answer to each line of an input, in order
+  abbrev pub answers_to : List (List ℕ) → List (Result Shown NoTime)
+  answers_to texts = map (λ text. answer_to (bytes_of text)) texts

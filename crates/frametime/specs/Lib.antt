@@ -1,2 +1,4 @@
 pub mod Answers
 pub mod Settings
+pub mod Texts
+pub mod Told

@@ -1,11 +1,12 @@
 // The answer to a line of input, and how it prints.
+ghost use Rattle.frametime.specs.Texts.{refusal_text, frames_text, shown_text, no_time_text};
 ghost use Rattle.frametime.specs.declared.lines.NoTime.TheVariants.{Refused};
-ghost use Rattle.std.specs.Prelude.{◌≡◌};
+ghost use Rattle.std.specs.Prelude.{◌≡◌, Some};
 
 use hexpairs::dashes::OrDash;
 use refusal::Fault;
+use std::error::Error;
 use std::fmt;
-use thiserror::Error;
 
 // A moment, its day and milliseconds, and when each pile of displays shows it.
 #[derive(Clone, Copy)]
@@ -27,15 +28,16 @@ pub enum Shown {
 }
 
 // Why a line tells no time.
-#[derive(Clone, Copy, Debug, Error)]
+#[derive(Clone, Copy, Debug)]
 pub enum NoTime {
-    #[error("not hexadecimal")]
     NotHexadecimal,
-    #[error("{}", Numbers(*.0))]
     Refused(Fault),
 }
 
-// By hand: the `From` of thiserror's `#[from]` has no contract that says what is made, and the `?` in `told` needs one.
+// What a line of input comes to.
+pub type Answer = Result<Shown, NoTime>;
+
+// The `?` in `told` needs it.
 impl From<Fault> for NoTime {
     ghost from_gives = { λ fault reason. reason ≡ Refused fault };
 
@@ -49,6 +51,8 @@ impl From<Fault> for NoTime {
 pub struct Numbers(pub Fault);
 
 impl fmt::Display for Numbers {
+    ghost output = { λ n. Some (refusal_text n.0) };
+
     fn fmt<W: fmt::Write>(&self, f: &mut fmt::Formatter<W>) -> fmt::Result {
         let Numbers(fault) = self;
         write!(
@@ -62,6 +66,8 @@ impl fmt::Display for Numbers {
 }
 
 impl fmt::Display for Frames {
+    ghost output = { λ f. Some (frames_text f) };
+
     fn fmt<W: fmt::Write>(&self, f: &mut fmt::Formatter<W>) -> fmt::Result {
         write!(f, "{} {} {}", self.moment, self.day, self.millis)?;
         write!(f, " {} {}", OrDash(self.panel), OrDash(self.edge))?;
@@ -75,6 +81,8 @@ impl fmt::Display for Frames {
 }
 
 impl fmt::Display for Shown {
+    ghost output = { λ s. Some (shown_text s) };
+
     fn fmt<W: fmt::Write>(&self, f: &mut fmt::Formatter<W>) -> fmt::Result {
         match self {
             Shown::AtOnce => write!(f, "now"),
@@ -82,3 +90,17 @@ impl fmt::Display for Shown {
         }
     }
 }
+
+// By hand: the `Display` that thiserror derives promises no text.
+impl fmt::Display for NoTime {
+    ghost output = { λ e. Some (no_time_text e) };
+
+    fn fmt<W: fmt::Write>(&self, f: &mut fmt::Formatter<W>) -> fmt::Result {
+        match self {
+            NoTime::NotHexadecimal => write!(f, "not hexadecimal"),
+            NoTime::Refused(fault) => write!(f, "{}", Numbers(*fault)),
+        }
+    }
+}
+
+impl Error for NoTime {}

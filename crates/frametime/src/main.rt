@@ -3,53 +3,36 @@
 
 mod answers;
 mod lines;
+mod texts;
 mod timings;
 
-use answers::Answer;
 use anyhow::{Context, ensure};
-use std::io::Read;
-use std::{env, io};
-use timings::Timing;
+use std::env;
+use std::io::{Read, Write};
+use texts::{Pair, told_text};
 
 const USAGE: &str = "give a period and a delay in milliseconds";
 
-// The answer to one line.
-fn print_answer(rt: &HostRuntime, number: usize, answer: &Answer) -> io::Result<()> {
-    match answer {
-        Ok(shown) => println!(rt; "{number} {shown}"),
-        Err(reason) => println!(rt; "{number} {reason}"),
-    }
-}
-
-// The answer to every line of the input, numbered from 1.
-fn print_answers(rt: &HostRuntime, input: &[u8], timing: Timing) -> io::Result<()> {
-    let all = timing.answers(rt.alloc(), input)?;
-    for (number, answer) in (1..).zip(&all) {
-        print_answer(rt, number, answer)?;
-    }
-    Ok(())
-}
-
-// A period and a delay with their answers, or with the refusal of one that is out of range.
-fn print_pair(rt: &HostRuntime, input: &[u8], period: u64, delay: u64) -> io::Result<()> {
-    println!(rt; "period {period} delay {delay}")?;
-    match Timing::new(period, delay) {
-        Ok(timing) => print_answers(rt, input, timing),
-        Err(reason) => println!(rt; "{reason}"),
-    }
-}
-
-// The arguments are pairs of a period and a delay in milliseconds; each pair is told about the whole input.
-fn run(rt: &HostRuntime) -> anyhow::Result<()> {
-    let mut input = Vec::new(rt.alloc());
-    rt.stdin().read_to_end(&mut input)?;
-    let mut words = env::args(rt)?.skip(1).peekable();
-    ensure!(words.peek().is_some(), USAGE);
+// The pairs of a period and a delay that the arguments give, in milliseconds.
+fn pairs(rt: &HostRuntime) -> anyhow::Result<Vec<Pair>> {
+    let mut pairs = Vec::new(rt.alloc());
+    let mut words = env::args(rt)?.skip(1);
     while let Some(word) = words.next() {
         let period = word.as_str().parse::<u64>()?;
         let delay = words.next().context(USAGE)?.as_str().parse::<u64>()?;
-        print_pair(rt, input.as_slice(), period, delay)?;
+        pairs.push(Pair { period, delay })?;
     }
+    ensure!(!pairs.is_empty(), USAGE);
+    Ok(pairs)
+}
+
+// Each pair is told about the whole input.
+fn run(rt: &HostRuntime) -> anyhow::Result<()> {
+    let pairs = pairs(rt)?;
+    let mut input = Vec::new(rt.alloc());
+    rt.stdin().read_to_end(&mut input)?;
+    let text = told_text(rt.alloc(), pairs.as_slice(), input.as_slice())?;
+    rt.stdout().write_all(text.as_bytes())?;
     Ok(())
 }
 

@@ -1,24 +1,32 @@
 -- A segment call by what is found, and where the segment lands.
-use Rattle.std.proofs.Common.{◌≡◌, ℕ, ◌+◌, ◌*◌, ◌<◌, ◌≤◌, Bool, true, false, List, [], Some, None, Option, Err, Result, sym, refl, ap, ◌∙◌, arith}
+use Rattle.std.proofs.Common.{◌≡◌, ℕ, ◌+◌, ◌*◌, ◌<◌, ◌≤◌, Bool, true, false, cond, List, [], Some, None, Ok, Option, Err, Result, sym, refl, ap, ap₂, ◌∙◌, arith}
+use Rattle.header.specs.Names.{NameRecord}
+use Rattle.packed.specs.Parts.{pasted}
+use Rattle.receiver.specs.Arrivals.{stored, comes_to, comes_to_effects}
+use Rattle.receiver.specs.declared.filings.Received.{Received}
+use Rattle.receiver.specs.declared.filings.Received.TheVariants.{Part, Whole}
 use Rattle.refusal.specs.declared.causes.Cause.TheVariants.{BodyMemoryMisfit, NotArriving}
-use Rattle.rules.specs.Assembly.{assembly_fault, on_arriving, on_landing, segment_of, segment_step}
-use Rattle.rules.specs.Effects.{landing_effects, segment_effects}
+use Rattle.rules.specs.Assembly.{assembly_fault, on_arriving, on_landing, put, received, filed, told_filing, segment_of, segment_step}
+use Rattle.rules.specs.Effects.{filed_effects, landing_effects, segment_effects}
 use Rattle.rules.specs.Headers.{receiver_fault, on_some}
 use Rattle.rules.specs.Soundness.{Sound, SlotSound}
-use Rattle.rules.specs.Triggers.{Effect}
-use Rattle.rules.specs.Worlds.{State, World, slot_at, fits_memory}
+use Rattle.rules.specs.Triggers.{verdict, Effect}
+use Rattle.rules.specs.Worlds.{State, World, slot_at, fits_memory, with_state, vacate}
 use Rattle.rules.specs.declared.answers.Answer.{Answer}
-use Rattle.rules.specs.declared.answers.Answer.TheVariants.{Refused}
+use Rattle.rules.specs.declared.answers.Answer.TheVariants.{Taken, Refused}
 use Rattle.slots.proofs.Landings.{lands}
 use Rattle.slots.proofs.Pieces.{fit, tight_inside, next_piece}
 use Rattle.slots.specs.Contents.{object_in}
 use Rattle.slots.specs.Searches.{first_slot}
-use Rattle.slots.specs.Segments.{landing, grown, piece_with, after_segment, after_landing}
-use Rattle.slots.specs.Slides.{Slot, Object, free, arriving, held, comes}
-use Rattle.slots.specs.declared.progress.Landing.{Landing}
+use Rattle.slots.specs.Seen.{object_of}
+use Rattle.slots.specs.Segments.{landing, grown, piece_with, after_segment, after_landing, complete}
+use Rattle.slots.specs.Slides as slides
+use Rattle.slots.specs.Slides.{Slot, Object, free, arriving, held, named, slide_of, with_progress}
+use Rattle.slots.specs.declared.indices.SlotIndex.{SlotIndex}
 use Rattle.slots.specs.declared.progress.Landing.TheVariants.{At}
 use Rattle.slots.specs.declared.progress.Progress.{Progress}
 use Rattle.slots.specs.declared.progress.Segment.{Segment}
+use Rattle.slots.specs.declared.records.Arrival.{Arrival}
 use Rattle.std.proofs.lemmas.Bool.{cond-true, cond-false}
 use Rattle.std.specs.Option.{ok_or}
 
@@ -30,6 +38,10 @@ module _ {A E : Type 0} where
       cc
 
 module _ (w : World) (t n : ℕ) (last : Bool) (xs : List ℕ) where
+  -- the step and its shows are these
+  abbrev pub Steps : Answer × World → List Effect → Type 0
+  Steps a es = (segment_step w t n last xs ≡ a) × (segment_effects w t n last xs ≡ es)
+
   abbrev misfit : Answer × World
   misfit = (Refused (receiver_fault BodyMemoryMisfit), w)
 
@@ -42,61 +54,66 @@ module _ (w : World) (t n : ℕ) (last : Bool) (xs : List ℕ) where
   abbrev at_slot : Option ℕ → Answer × World
   at_slot f = on_some f nowhere (λ k. on_arriving (slot_at w.state k) nowhere (at_object k))
 
-  pub segment_misfit : fits_memory w ≡ false → misfit ≡ segment_step w t n last xs
-  unfolding segment_step
-  segment_misfit h = sym (cond-false (fits_memory w) (at_slot (first_slot (comes t) w.state.slots)) misfit h)
-
-  found : (f : Option ℕ) → fits_memory w ≡ true → f ≡ first_slot (comes t) w.state.slots → at_slot f ≡ segment_step w t n last xs
-  unfolding segment_step
-  found f h e =
-      ap at_slot e ∙ sym (cond-true (fits_memory w) (at_slot (first_slot (comes t) w.state.slots)) misfit h)
-
-  pub none_arrives : fits_memory w ≡ true → None ≡ first_slot (comes t) w.state.slots → nowhere ≡ segment_step w t n last xs
-  none_arrives h e = found None h e
-
-  pub no_object : (k : ℕ) → fits_memory w ≡ true → Some k ≡ first_slot (comes t) w.state.slots → object_in (slot_at w.state k) ≡ None → nowhere ≡ segment_step w t n last xs
-  no_object k h e q = go (slot_at w.state k) q ∙ found (Some k) h e
-    where
-      go : (z : Slot) → object_in z ≡ None → nowhere ≡ on_arriving z nowhere (at_object k)
-      go free i = refl
-      go (arriving o) i = let b : ◌≡◌ {A = ℕ} 0 1 = cc in absurd (omega arith)
-      go (held x) i = refl
-
-  pub object_takes : (k : ℕ) (o : Object) (l : Landing) → fits_memory w ≡ true → Some k ≡ first_slot (comes t) w.state.slots → slot_at w.state k ≡ arriving o → l ≡ landing o.progress (segment_of n last xs) → on_landing l k o (segment_of n last xs) xs w ≡ segment_step w t n last xs
-  object_takes k o l h e i q =
-      ap (λ x. on_landing x k o (segment_of n last xs) xs w) q ∙ (ap (λ z. on_arriving z nowhere (at_object k)) (sym i) ∙ found (Some k) h e)
-
--- and what takes effect in it
-module _ (w : World) (t n : ℕ) (last : Bool) (xs : List ℕ) where
   abbrev told_object : ℕ → Object → List Effect
   told_object k o = landing_effects (landing o.progress (segment_of n last xs)) k o (segment_of n last xs) xs w
 
   abbrev told_slot : Option ℕ → List Effect
   told_slot f = on_some f [] (λ k. on_arriving (slot_at w.state k) [] (told_object k))
 
-  pub segment_misfit_tells : fits_memory w ≡ false → [] ≡ segment_effects w t n last xs
-  unfolding segment_effects
-  segment_misfit_tells h = sym (cond-false (fits_memory w) (told_slot (first_slot (comes t) w.state.slots)) [] h)
+  pub segment_misfit : fits_memory w ≡ false → Steps misfit []
+  unfolding segment_step segment_effects
+  segment_misfit h =
+      (cond-false (fits_memory w) (at_slot (first_slot (slides.comes t) w.state.slots)) misfit h, cond-false (fits_memory w) (told_slot (first_slot (slides.comes t) w.state.slots)) [] h)
 
-  found_tells : (f : Option ℕ) → fits_memory w ≡ true → f ≡ first_slot (comes t) w.state.slots → told_slot f ≡ segment_effects w t n last xs
-  unfolding segment_effects
-  found_tells f h e =
-      ap told_slot e ∙ sym (cond-true (fits_memory w) (told_slot (first_slot (comes t) w.state.slots)) [] h)
+  found : (f : Option ℕ) → fits_memory w ≡ true → f ≡ first_slot (slides.comes t) w.state.slots → Steps (at_slot f) (told_slot f)
+  unfolding segment_step segment_effects
+  found f h e =
+      (cond-true (fits_memory w) (at_slot (first_slot (slides.comes t) w.state.slots)) misfit h ∙ ap at_slot (sym e), cond-true (fits_memory w) (told_slot (first_slot (slides.comes t) w.state.slots)) [] h ∙ ap told_slot (sym e))
 
-  pub none_arrives_tells : fits_memory w ≡ true → None ≡ first_slot (comes t) w.state.slots → [] ≡ segment_effects w t n last xs
-  none_arrives_tells h e = found_tells None h e
+  pub none_arrives : fits_memory w ≡ true → None ≡ first_slot (slides.comes t) w.state.slots → Steps nowhere []
+  none_arrives h e = found None h e
 
-  pub no_object_tells : (k : ℕ) → fits_memory w ≡ true → Some k ≡ first_slot (comes t) w.state.slots → object_in (slot_at w.state k) ≡ None → [] ≡ segment_effects w t n last xs
-  no_object_tells k h e q = go (slot_at w.state k) q ∙ found_tells (Some k) h e
+  pub no_object : (k : ℕ) → fits_memory w ≡ true → Some k ≡ first_slot (slides.comes t) w.state.slots → object_in (slot_at w.state k) ≡ None → Steps nowhere []
+  no_object k h e q =
+      let f = found (Some k) h e in
+      (f.0 ∙ (go (slot_at w.state k) q).0, f.1 ∙ (go (slot_at w.state k) q).1)
     where
-      go : (z : Slot) → object_in z ≡ None → [] ≡ on_arriving z [] (told_object k)
-      go free i = refl
+      go : (z : Slot) → object_in z ≡ None → (on_arriving z nowhere (at_object k) ≡ nowhere) × (on_arriving z [] (told_object k) ≡ [])
+      go free i = (refl, refl)
       go (arriving o) i = let b : ◌≡◌ {A = ℕ} 0 1 = cc in absurd (omega arith)
-      go (held x) i = refl
+      go (held x) i = (refl, refl)
 
-  pub object_tells : (k : ℕ) (o : Object) (l : Landing) → fits_memory w ≡ true → Some k ≡ first_slot (comes t) w.state.slots → slot_at w.state k ≡ arriving o → l ≡ landing o.progress (segment_of n last xs) → landing_effects l k o (segment_of n last xs) xs w ≡ segment_effects w t n last xs
-  object_tells k o l h e i q =
-      ap (λ x. landing_effects x k o (segment_of n last xs) xs w) q ∙ (ap (λ z. on_arriving z [] (told_object k)) (sym i) ∙ found_tells (Some k) h e)
+  pub object_takes : (k : ℕ) (o : Object) → fits_memory w ≡ true → Some k ≡ first_slot (slides.comes t) w.state.slots → slot_at w.state k ≡ arriving o → Steps (at_object k o) (told_object k o)
+  object_takes k o h e i =
+      let f = found (Some k) h e in
+      (f.0 ∙ ap (λ z. on_arriving z nowhere (at_object k)) i, f.1 ∙ ap (λ z. on_arriving z [] (told_object k)) i)
+
+-- a segment that lands comes to what is stored, and to the slide's category and trigger
+module _ (w : World) (k : SlotIndex) (a : Arrival) (name : NameRecord) (g : Segment) (at : ℕ) (xs : List ℕ) where
+  abbrev o : Object
+  o = object_of a name
+
+  abbrev q : Progress
+  q = grown a.progress g
+
+  -- slot k before and after the slide is held, with the segment's bytes in memory
+  abbrev arrived : World
+  arrived = received k.index o g at xs w
+
+  abbrev kept : World
+  kept = with_state (put k.index (held (slide_of (with_progress o q))) (vacate (named name) arrived.state)) arrived
+
+  abbrev by : Bool → World
+  by b = record { state = cond b kept.state arrived.state; memory = arrived.memory; display = w.display }
+
+  comes : (b : Bool) → (cond b (told_filing (verdict w.state.clock a.trigger) a.number, filed k.index (with_progress o q) arrived) (Taken a.number, arrived) ≡ comes_to (Ok (cond b (Whole k a) (Part a.number))) (by b)) × (cond b (filed_effects k.index (with_progress o q) arrived) [] ≡ comes_to_effects (Ok (cond b (Whole k a) (Part a.number))) (by b))
+  comes true = (refl, refl)
+  comes false = (refl, refl)
+
+  pub lands_comes : (r : Received) (u : World) → r ≡ cond (complete q) (Whole k a) (Part a.number) → u ≡ record { state = stored k.index o q w.state; memory = pasted w.memory (k.index * w.state.room + at) xs; display = w.display } → (on_landing (At at) k.index o g xs w ≡ comes_to (Ok r) u) × (landing_effects (At at) k.index o g xs w ≡ comes_to_effects (Ok r) u)
+  lands_comes r u e i =
+      let h = comes (complete q) in
+      (h.0 ∙ ap₂ (λ (x : Received) (y : World). comes_to (Ok x) y) (sym e) (sym i), h.1 ∙ ap₂ (λ (x : Received) (y : World). comes_to_effects (Ok x) y) (sym e) (sym i))
 
 -- a segment that lands lies within its body
 pub lands_within : (p : Progress) (g : Segment) (at : ℕ) → At at ≡ landing p g → at + g.length ≤ p.size

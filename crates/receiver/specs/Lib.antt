@@ -6,4 +6,5 @@ pub mod Receivers
 pub mod Settings
 pub mod Bodies
 pub mod Images
+pub mod Heard
 pub mod Answers

@@ -1,18 +1,17 @@
 // The clock goes on: triggers take effect at their own moments, and what has expired goes.
-ghost use Rattle.std.specs.Prelude.{◌≡◌, ℕ, ◌<◌, List, [], ◌∷◌, map, length, if◌then◌else◌, filter};
+ghost use Rattle.std.specs.Prelude.{◌≡◌, OnErr, ℕ, ◌<◌, List, [], ◌∷◌, map, length, if◌then◌else◌, filter};
 ghost use Rattle.display.specs.Meaning.{Meaning};
+ghost use Rattle.receiver.specs.Settings.{SetsTo};
 ghost use Rattle.receiver.specs.Views.{state_of, world_of};
-ghost use Rattle.rules.specs.Calls.{counted};
-ghost use Rattle.rules.specs.Clocks.{prepared, set_to};
-ghost use Rattle.rules.specs.Effects.{due_effects};
-ghost use Rattle.rules.specs.Passes.{seen, shot, passed_to};
+ghost use Rattle.rules.specs.Passes.{seen, shot, undue, at_clock};
 ghost use Rattle.rules.specs.Reached.{Reached};
-ghost use Rattle.rules.specs.Worlds.{slot_at, show_all};
+ghost use Rattle.rules.specs.Worlds.{slot_at, vacate, show_all};
 ghost use Rattle.slots.specs.Slides.{ends};
 
 use crate::parts::Parts;
 use crate::sieves::{After, NotBefore};
 use display::Display;
+use refusal::Fault;
 use shelf::entries::Entry;
 use slots::indices::SlotIndex;
 use slots::sought::Ending;
@@ -53,7 +52,7 @@ impl Parts {
     }
 
     // Shows what takes effect by a moment, each slide from its trigger's own moment on, and answers how many.
-    fn show_due<D: Display>(&self, display: &mut D, memory: &[u8], moment: u64) -> usize
+    pub(crate) fn show_due<D: Display>(&self, display: &mut D, memory: &[u8], moment: u64) -> usize
         ensures count { result ≡ length (filter (seen (state_of self.now) moment) (state_of self.now).waiting) }
         ensures shows { D.Display.meaning display.new ≡ show_all (D.Display.meaning display.old) (map (shot (world_of self.now memory.now (D.Display.meaning display.old))) (filter (seen (state_of self.now) moment) (state_of self.now).waiting)) }
         ensures reached { Reached D.Display.told display.old (map (shot (world_of self.now memory.now (D.Display.meaning display.old))) (filter (seen (state_of self.now) moment) (state_of self.now).waiting)) display.new }
@@ -68,38 +67,24 @@ impl Parts {
         count
     }
 
-    // The clock comes to a moment: what takes effect by then is shown, what has expired by then goes.
-    pub(crate) fn pass<D: Display>(&mut self, display: &mut D, memory: &[u8], moment: u64) -> usize
-        ensures count { result ≡ length (filter (seen (state_of self.old) moment) (state_of self.old).waiting) }
-        ensures world { world_of self.new memory.now (D.Display.meaning display.new) ≡ passed_to moment (world_of self.old memory.now (D.Display.meaning display.old)) }
-        ensures reached { Reached D.Display.told display.old (map (shot (world_of self.old memory.now (D.Display.meaning display.old))) (filter (seen (state_of self.old) moment) (state_of self.old).waiting)) display.new }
+    // What a setting does before any trigger takes effect: what has expired by the moment of its time field goes, and earlier
+    // triggers are dropped. Answers that moment, or why there is none, and then changes nothing.
+    pub(crate) fn prepare(&mut self, memory: &[u8], field: &[u8]) -> Result<u64, Fault>
+        ensures sets { (m : Meaning) → SetsTo result (world_of self.old memory.now m) (world_of self.new memory.now m) field.now }
+        ensures refused { OnErr result (self.new ≡ self.old) }
     {
-        let count = self.show_due(display, memory, moment);
+        let moment = self.moment_in(memory, field)?;
+        self.vacate(&Ending(moment));
+        self.waiting.keep(&NotBefore(moment));
+        Ok(moment)
+    }
+
+    // The clock comes to a moment: what was due by then is off the list, what has expired by then goes.
+    pub(crate) fn pass(&mut self, moment: u64)
+        ensures { state_of self.new ≡ at_clock moment (vacate (ends moment) (undue moment (state_of self.old))) }
+    {
         self.waiting.keep(&After(moment));
         self.vacate(&Ending(moment));
         self.clock = moment;
-        count
-    }
-
-    // What has expired by a moment goes, and earlier triggers are dropped.
-    fn prepare(&mut self, moment: u64)
-        ensures { (m : Meaning) (memory : List ℕ) → world_of self.new memory m ≡ prepared moment (world_of self.old memory m) }
-    {
-        self.vacate(&Ending(moment));
-        self.waiting.keep(&NotBefore(moment));
-    }
-
-    // The clock is set: what has expired goes and earlier triggers are dropped before any takes effect.
-    pub(crate) fn set_to<D: Display>(
-        &mut self,
-        display: &mut D,
-        memory: &[u8],
-        moment: u64,
-    ) -> usize
-        ensures world { (counted result, world_of self.new memory.now (D.Display.meaning display.new)) ≡ set_to moment (world_of self.old memory.now (D.Display.meaning display.old)) }
-        ensures reached { Reached D.Display.told display.old (due_effects moment (prepared moment (world_of self.old memory.now (D.Display.meaning display.old)))) display.new }
-    {
-        self.prepare(moment);
-        self.pass(display, memory, moment)
     }
 }

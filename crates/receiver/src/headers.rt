@@ -1,36 +1,54 @@
-// What a header does.
-ghost use Rattle.std.specs.Prelude.{◌≡◌};
-ghost use Rattle.receiver.specs.Answers.{Stays};
-ghost use Rattle.receiver.specs.Views.{state_of, world_of, said};
-ghost use Rattle.rules.specs.Effects.{header_effects};
-ghost use Rattle.rules.specs.Headers.{header_step};
-ghost use Rattle.rules.specs.Reached.{Reached};
+// What a header says, and what it is to a receiver.
+ghost use Rattle.std.specs.Prelude.{◌≡◌, ℕ, List, Ok, IfOk};
+ghost use Rattle.display.specs.Meaning.{Meaning};
+ghost use Rattle.header.specs.Headers.{seen, record_of};
+ghost use Rattle.header.specs.Sound.{Sound};
+ghost use Rattle.receiver.specs.Heard.{HeardFits, heard_by, heard_by_effects};
+ghost use Rattle.receiver.specs.Views.{state_of, world_of};
+ghost use Rattle.rules.specs.Effects.{on_header_effects, header_effects};
+ghost use Rattle.rules.specs.Headers.{on_header, header_step};
 
 use crate::parts::Parts;
-use display::Display;
-use header::kinds::Kind;
+use header::kinds::{Header, Kind};
 use header::read_header;
 use refusal::Fault;
-use rules::answers::Answer;
+use slots::indices::SlotIndex;
+
+// What a header is.
+pub(crate) enum Heard {
+    // an image's, of a new object
+    New,
+    // a repeat, of the slide or the object with this number
+    Again(u32),
+    // a changed header, for the slide held in this slot
+    Changed(SlotIndex),
+    // an update of the slide held in this slot
+    Update(SlotIndex),
+    // an update of a slide that is not held
+    Stray,
+}
 
 impl Parts {
-    // Takes the header of an object that is sent under a TransportId.
-    pub(crate) fn header<D: Display>(
-        &mut self,
-        display: &mut D,
-        memory: &[u8],
-        transport: u16,
-        bytes: &[u8],
-    ) -> Result<Answer, Fault>
-        ensures world { (said result, world_of self.new memory.now (D.Display.meaning display.new)) ≡ header_step (world_of self.old memory.now (D.Display.meaning display.old)) transport bytes.now }
-        ensures reached { Reached D.Display.told display.old (header_effects (world_of self.old memory.now (D.Display.meaning display.old)) transport bytes.now) display.new }
-        ensures refused { Stays (said result) self.old self.new × Stays (said result) display.old display.new }
+    // What the bytes of a header say, or why they say nothing.
+    pub(crate) fn header_in<'b>(&self, memory: &[u8], bytes: &'b [u8]) -> Result<Header<'b>, Fault>
+        ensures steps { (m : Meaning) (transport : ℕ) → header_step (world_of self.now memory.now m) transport bytes.now ≡ on_header (seen result) (world_of self.now memory.now m) transport }
+        ensures tells { (m : Meaning) (transport : ℕ) → header_effects (world_of self.now memory.now m) transport bytes.now ≡ on_header_effects (seen result) (world_of self.now memory.now m) transport }
+        ensures sound { IfOk (seen result) (Sound self.now.room) }
     {
         self.admit(memory)?;
-        let header = read_header(bytes, self.room)?;
+        read_header(bytes, self.room)
+    }
+
+    // What a header is, by the slides that are held and the objects that arrive.
+    pub(crate) fn heard(&self, transport: u16, header: &Header<'_>) -> Heard
+        requires { Sound self.now.room (record_of header.now) }
+        ensures steps { (m : Meaning) (memory : List ℕ) → on_header (Ok (record_of header.now)) (world_of self.now memory m) transport ≡ heard_by result (world_of self.now memory m) transport (record_of header.now) }
+        ensures tells { (m : Meaning) (memory : List ℕ) → on_header_effects (Ok (record_of header.now)) (world_of self.now memory m) transport ≡ heard_by_effects result (world_of self.now memory m) transport (record_of header.now) }
+        ensures fits { HeardFits result (state_of self.now) transport (record_of header.now) }
+    {
         match header.kind {
-            Kind::Image => self.image(display, memory, transport, &header),
-            Kind::Update => self.update(display, memory, &header),
+            Kind::Image => self.image_heard(transport, header),
+            Kind::Update => self.update_heard(header),
         }
     }
 }

@@ -1,4 +1,4 @@
-// What an image header does.
+// What an image header is, and what one of a new object does.
 ghost use Rattle.std.specs.Prelude.{◌≡◌, ℕ, ◌<◌, ◌≤◌, not, List, false, filter, slice_index_or};
 ghost use Rattle.display.specs.Meaning.{Meaning};
 ghost use Rattle.header.specs.Finds.{name_of_label};
@@ -6,17 +6,17 @@ ghost use Rattle.header.specs.Headers.{record_of};
 ghost use Rattle.header.specs.Kept.{name_of};
 ghost use Rattle.rack.specs.Listed.{filed};
 ghost use Rattle.receiver.specs.Answers.{Stays};
+ghost use Rattle.receiver.specs.Heard.{HeardFits, heard_by, heard_by_effects};
 ghost use Rattle.receiver.specs.Images.{AnnouncesImage};
 ghost use Rattle.receiver.specs.Views.{state_of, world_of, said};
 ghost use Rattle.rules.specs.Effects.{image_effects};
 ghost use Rattle.rules.specs.Headers.{begun, new_image, image_step};
-ghost use Rattle.rules.specs.Reached.{Reached};
 ghost use Rattle.slots.specs.Seen.{all_seen};
 ghost use Rattle.slots.specs.Slides.{free, image_of, numbered, passed};
 
 use crate::faults::{EXPIRY_NOT_AHEAD, NO_SLOT_TO_USE};
+use crate::headers::Heard;
 use crate::parts::Parts;
-use display::Display;
 use header::kinds::Header;
 use header::names::Name;
 use rack::racks::Places;
@@ -79,19 +79,12 @@ impl Parts {
         Ok(Answer::Taken(self.given))
     }
 
-    // Takes an image header. With the name and version of a held slide it is a repeat if that was sent under its TransportId,
-    // else a changed header; another is a repeat if it arrives just so.
-    pub(crate) fn image<D: Display>(
-        &mut self,
-        display: &mut D,
-        memory: &[u8],
-        transport: u16,
-        header: &Header<'_>,
-    ) -> Result<Answer, Fault>
-        requires { AnnouncesImage self.old.room (record_of header.now) }
-        ensures world { (said result, world_of self.new memory.now (D.Display.meaning display.new)) ≡ image_step (world_of self.old memory.now (D.Display.meaning display.old)) transport (record_of header.now) }
-        ensures reached { Reached D.Display.told display.old (image_effects (world_of self.old memory.now (D.Display.meaning display.old)) transport (record_of header.now)) display.new }
-        ensures refused { Stays (said result) self.old self.new × Stays (said result) display.old display.new }
+    // What an image header is, by the slides that are held and the objects that arrive.
+    pub(crate) fn image_heard(&self, transport: u16, header: &Header<'_>) -> Heard
+        requires { AnnouncesImage self.now.room (record_of header.now) }
+        ensures steps { (m : Meaning) (memory : List ℕ) → image_step (world_of self.now memory m) transport (record_of header.now) ≡ heard_by result (world_of self.now memory m) transport (record_of header.now) }
+        ensures tells { (m : Meaning) (memory : List ℕ) → image_effects (world_of self.now memory m) transport (record_of header.now) ≡ heard_by_effects result (world_of self.now memory m) transport (record_of header.now) }
+        ensures fits { HeardFits result (state_of self.now) transport (record_of header.now) }
     {
         let versioned = Versioned {
             name: header.name,
@@ -99,17 +92,17 @@ impl Parts {
         };
         if let Some(k) = self.slots.find(&versioned) {
             if SentUnder(transport).passes(self.slots.at(k)) {
-                return Ok(Answer::Repeat(self.number_at(k)));
+                return Heard::Again(self.number_at(k));
             }
-            return self.change(display, memory, k, transport, header);
+            return Heard::Changed(k);
         }
         let again = ComesAgain {
             transport,
             header: *header,
         };
-        if let Some(k) = self.slots.find(&again) {
-            return Ok(Answer::Repeat(self.number_at(k)));
+        match self.slots.find(&again) {
+            Some(k) => Heard::Again(self.number_at(k)),
+            None => Heard::New,
         }
-        self.new_image(transport, header)
     }
 }

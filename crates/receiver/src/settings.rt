@@ -15,12 +15,12 @@ use refusal::Fault;
 impl<D: Display> Receiver<D, Unset> {
     // Sets the clock from a time field: what has expired by then goes, and the triggers of just that moment take effect.
     // A refused setting gives the receiver back as it was.
-    pub fn set(self, memory: &[u8], field: &[u8]) -> Result<Started<D>, Unmoved<D>>
+    pub fn set(mut self, memory: &[u8], field: &[u8]) -> Result<Started<D>, Unmoved<D>>
         ensures sets { Sets D.Display.meaning self memory.now field.now result }
         ensures shows { SetShows D.Display.meaning D.Display.told self memory.now field.now result }
     {
         // no `?`: the error takes the receiver along
-        let moment = match self.parts.moment_in(memory, field) {
+        let moment = match self.parts.prepare(memory, field) {
             Ok(moment) => moment,
             Err(fault) => {
                 return Err(Unmoved {
@@ -34,7 +34,8 @@ impl<D: Display> Receiver<D, Unset> {
             mut display,
             phase: _,
         } = self;
-        let shows = parts.set_to(&mut display, memory, moment);
+        let shows = parts.show_due(&mut display, memory, moment);
+        parts.pass(moment);
         let receiver = Receiver {
             parts,
             display,
@@ -52,6 +53,9 @@ impl<D: Display> Receiver<D, Running> {
         ensures shows { Reached D.Display.told self.old.display (reading_effects (world D.Display.meaning self.old memory.now) field.now) self.new.display }
         ensures refused { OnErr result (self.new ≡ self.old) }
     {
-        self.parts.read(&mut self.display, memory, field)
+        let moment = self.parts.reading(memory, field)?;
+        let shows = self.parts.show_due(&mut self.display, memory, moment);
+        self.parts.pass(moment);
+        Ok(shows)
     }
 }

@@ -99,7 +99,7 @@ module _ (w : World) where
       (λ e. still w _)
 
   -- a call that is no time field leaves the clock
-  pub other_clock : (c : Call) → NoTime c → (step w (call_of c)).1.state.clock ≡ w.state.clock
+  other_clock : (c : Call) → NoTime c → (step w (call_of c)).1.state.clock ≡ w.state.clock
   unfolding step
   other_clock (calls.Header t xs) h = (header_clock t xs.now).same
   other_clock (calls.Segment t s) h = (segment_clock t s.number s.last s.bytes.now).same
@@ -110,6 +110,9 @@ module _ (w : World) where
   other_clock calls.Card h = refl
   other_clock (calls.CardByte i) h = refl
   other_clock calls.SlotSize h = refl
+
+  pub unset_on : (v : World) (c : Call) (y : Reply) → NoTime c → w.state.clock ≡ 0 → (y, v) ≡ step w (call_of c) → v.state.clock ≡ 0
+  unset_on v c y h z e = ap (λ (o : Reply × World). o.1.state.clock) e ∙ (other_clock c h ∙ z)
 
   on_reading_clock : (r : Result Time Fault) → Climbs w (on_reading r w)
   on_reading_clock (Err e) = record { higher = omega arith }

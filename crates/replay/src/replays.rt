@@ -1,17 +1,14 @@
 // A list of calls, sent one by one to a receiver that is opened for it.
-ghost use Rattle.std.specs.Prelude.{◌≡◌, ◌<◌, [], map, IfOk, OnOk};
+ghost use Rattle.std.specs.Prelude.{◌≡◌, ℕ, ◌+◌, ◌<◌, ◌≤◌, length, map, take, Err, IfOk, IfErr, vec_len, vec_capacity};
 ghost use Rattle.calls.specs.Plain.{call_of, reply_of};
 ghost use Rattle.receiver.specs.Receivers.{world};
-ghost use Rattle.replay.specs.Ends.{Ran, Replays, display_in, world_at_end};
-ghost use Rattle.rules.specs.Effects.{all_effects};
-ghost use Rattle.rules.specs.Laws.{account};
-ghost use Rattle.rules.specs.Reached.{Reached};
+ghost use Rattle.replay.specs.Ends.{Ran, Replays};
 
 use crate::ended::Ended;
 use crate::steps::{ask, run_one};
 use calls::{Call, Reply};
 use display::Display;
-use receiver::phases::{Running, Unset};
+use receiver::phases::Running;
 use receiver::receivers::Receiver;
 use std::alloc::{AllocError, Global};
 
@@ -22,74 +19,94 @@ pub struct Replayed<D> {
     pub receiver: Ended<D>,
 }
 
-// Sends the calls to a running receiver, and puts the replies behind those that are there. Tried: methods of a struct of
-// heap, memory and replies. They prove, but with a `new`, a method that lends the bytes, and a clause in each that the
-// reference stays the same one.
-fn run_on<D: Display>(
-    heap: Global,
-    receiver: &mut Receiver<D, Running>,
-    memory: &mut [u8],
-    calls: &[Call<'_>],
-    said: &mut Vec<Reply>,
-) -> Result<(), AllocError>
-    requires { 0 < receiver.old.parts.clock }
-    ensures ran { OnOk result (Ran (world D.Display.meaning receiver.old memory.old) (map call_of calls.now) (map reply_of said.old.items) (map reply_of said.new.items) (world D.Display.meaning receiver.new memory.new)) }
-    ensures shows { OnOk result (Reached D.Display.told receiver.old.display (all_effects (world D.Display.meaning receiver.old memory.old) (map call_of calls.now)) receiver.new.display) }
-{
-    for call in calls {
-        said.push(run_one(heap, receiver, memory, call)?)?;
-    }
-    Ok(())
+// What was replayed before memory was wanting: the replies to the first calls, and the receiver as these left it.
+#[derive(Drop)]
+pub struct Interrupted<D> {
+    pub replayed: Replayed<D>,
+    pub error: AllocError,
 }
 
-// Sends the calls to a receiver that was not set: from the first accepted setting on it runs. The rest of the calls is cut
-// off by index, since the checker does not cover a loop that splits the first call off a slice and moves the receiver.
-fn run_unset<D: Display + Drop>(
+// The error alone, for a caller that has no use for the rest.
+impl<D: Drop> From<Interrupted<D>> for AllocError {
+    ghost from_gives = { λ interrupted error. error ≡ interrupted.error };
+
+    fn from(interrupted: Interrupted<D>) -> AllocError {
+        interrupted.error
+    }
+}
+
+// A replay that ends here, since memory is wanting.
+fn cut_short<D>(
+    replies: Vec<Reply>,
+    receiver: Ended<D>,
+    error: AllocError,
+) -> Result<Replayed<D>, Interrupted<D>>
+    ensures { result ≡ Err (record { replayed = record { replies = replies; receiver = receiver }; error = error }) }
+{
+    let replayed = Replayed { replies, receiver };
+    Err(Interrupted { replayed, error })
+}
+
+// Sends the calls to a running receiver, and puts the replies behind those that are there; there is room for all of them.
+fn run_on<D: Display>(
     heap: Global,
-    opened: Receiver<D, Unset>,
+    mut receiver: Receiver<D, Running>,
     memory: &mut [u8],
     calls: &[Call<'_>],
-) -> Result<Replayed<D>, AllocError>
-    requires { opened.parts.clock ≡ 0 }
-    ensures ran { IfOk result (λ x. Ran (world D.Display.meaning opened memory.old) (map call_of calls.now) [] (map reply_of x.replies.items) (world_at_end D.Display.meaning x.receiver memory.new)) }
-    ensures shows { IfOk result (λ x. Reached D.Display.told opened.display (all_effects (world D.Display.meaning opened memory.old) (map call_of calls.now)) (display_in x.receiver)) }
+    mut replies: Vec<Reply>,
+) -> Result<Replayed<D>, Interrupted<D>>
+    requires runs { 0 < receiver.parts.clock }
+    requires room { vec_len replies + length calls.now ≤ vec_capacity replies }
+    ensures ran { IfOk result (λ x. Ran D.Display.meaning D.Display.told (world D.Display.meaning receiver memory.old) receiver.display (map call_of calls.now) (map reply_of replies.items) x memory.new) }
+    ensures interrupted { IfErr result (λ e. (n : ℕ) × Ran D.Display.meaning D.Display.told (world D.Display.meaning receiver memory.old) receiver.display (map call_of (take n calls.now)) (map reply_of replies.items) e.replayed memory.new) }
 {
-    let mut replies = Vec::with_capacity(heap, calls.len())?;
-    let mut receiver = opened;
-    for (i, call) in calls.iter().enumerate() {
-        if let Call::Time { bytes } = call {
-            match receiver.set(memory, bytes) {
-                Ok(started) => {
-                    replies.push(Reply::Counted(Ok(started.shows)))?;
-                    let mut running = started.receiver;
-                    run_on(heap, &mut running, memory, &calls[i + 1..], &mut replies)?;
-                    let receiver = Ended::NowRunning(running);
-                    return Ok(Replayed { replies, receiver });
-                }
-                Err(unmoved) => {
-                    replies.push(Reply::Counted(Err(unmoved.fault)))?;
-                    receiver = unmoved.receiver;
-                }
-            }
-        } else {
-            replies.push(ask(heap, &mut receiver, memory, call)?)?;
+    for call in calls {
+        match run_one(heap, &mut receiver, memory, call) {
+            Ok(reply) => replies.push(reply).unwrap(),
+            Err(error) => return cut_short(replies, Ended::NowRunning(receiver), error),
         }
     }
-    let receiver = Ended::StillUnset(receiver);
+    let receiver = Ended::NowRunning(receiver);
     Ok(Replayed { replies, receiver })
 }
 
 // Opens a receiver over a display, with slots of at most that size, and sends it the calls in order: a time field sets the
-// clock until one is accepted, and is a reading after that.
-pub fn replay<D: Display + Drop>(
+// clock until one is accepted, and is a reading after that. Where memory is wanting for a reply, that call and those behind
+// it are not made, and what was replayed before is handed back.
+pub fn replay<D: Display>(
     heap: Global,
     display: D,
     slot_size: u32,
     memory: &mut [u8],
     calls: &[Call<'_>],
-) -> Result<Replayed<D>, AllocError>
-    ensures replays { IfOk result (λ x. Replays (D.Display.meaning display) slot_size memory.old (map call_of calls.now) (map reply_of x.replies.items) (world_at_end D.Display.meaning x.receiver memory.new)) }
-    ensures shows { IfOk result (λ x. Reached D.Display.told display (account (D.Display.meaning display) slot_size memory.old (map call_of calls.now)).history (display_in x.receiver)) }
+) -> Result<Replayed<D>, Interrupted<D>>
+    ensures replays { IfOk result (λ x. Replays D.Display.meaning D.Display.told display slot_size memory.old (map call_of calls.now) x memory.new) }
+    ensures interrupted { IfErr result (λ e. Replays D.Display.meaning D.Display.told display slot_size memory.old (take (vec_len e.replayed.replies) (map call_of calls.now)) e.replayed memory.new) }
 {
-    run_unset(heap, Receiver::open(display, slot_size), memory, calls)
+    let mut receiver = Receiver::open(display, slot_size);
+    // room for all replies, so that no push below fails
+    let mut replies = match Vec::with_capacity(heap, calls.len()) {
+        Ok(empty) => empty,
+        Err(error) => return cut_short(Vec::new(heap), Ended::StillUnset(receiver), error),
+    };
+    for (i, call) in calls.iter().enumerate() {
+        match call {
+            Call::Time { bytes } => match receiver.set(memory, bytes) {
+                Ok(started) => {
+                    replies.push(Reply::Counted(Ok(started.shows))).unwrap();
+                    return run_on(heap, started.receiver, memory, &calls[i + 1..], replies);
+                }
+                Err(unmoved) => {
+                    replies.push(Reply::Counted(Err(unmoved.fault))).unwrap();
+                    receiver = unmoved.receiver;
+                }
+            },
+            _ => match ask(heap, &mut receiver, memory, call) {
+                Ok(reply) => replies.push(reply).unwrap(),
+                Err(error) => return cut_short(replies, Ended::StillUnset(receiver), error),
+            },
+        }
+    }
+    let receiver = Ended::StillUnset(receiver);
+    Ok(Replayed { replies, receiver })
 }

@@ -1,5 +1,5 @@
 // One call of a replay.
-ghost use Rattle.std.specs.Prelude.{◌≡◌, ◌<◌, IfOk, OnOk};
+ghost use Rattle.std.specs.Prelude.{◌≡◌, ◌<◌, IfOk, OnErr, OnOk};
 ghost use Rattle.calls.specs.Plain.{call_of, reply_of};
 ghost use Rattle.receiver.specs.Receivers.{world};
 ghost use Rattle.replay.specs.Ends.{NoTime};
@@ -30,7 +30,7 @@ fn body<D: Display, P>(
     }))
 }
 
-// The reply to a call that is no time field, in every phase.
+// The reply to a call that is no time field, in every phase. Where memory is wanting for it, nothing changed.
 #[tactic(auto, unfolding(rules::specs::Runs::step, rules::specs::Effects::effects))]
 pub(crate) fn ask<D: Display, P>(
     heap: Global,
@@ -41,6 +41,7 @@ pub(crate) fn ask<D: Display, P>(
     requires { NoTime call.now }
     ensures replied { IfOk result (λ y. (reply_of y, world D.Display.meaning receiver.new memory.new) ≡ step (world D.Display.meaning receiver.old memory.old) (call_of call.now)) }
     ensures shows { OnOk result (Reached D.Display.told receiver.old.display (effects (world D.Display.meaning receiver.old memory.old) (call_of call.now)) receiver.new.display) }
+    ensures wanting { OnErr result ((receiver.new ≡ receiver.old) × (memory.new ≡ memory.old)) }
 {
     match call {
         Call::Header { transport, bytes } => {
@@ -59,7 +60,7 @@ pub(crate) fn ask<D: Display, P>(
     }
 }
 
-// The reply of a running receiver to any call.
+// The reply of a running receiver to any call. Where memory is wanting for it, nothing changed.
 pub(crate) fn run_one<D: Display>(
     heap: Global,
     receiver: &mut Receiver<D, Running>,
@@ -69,6 +70,7 @@ pub(crate) fn run_one<D: Display>(
     requires { 0 < (world D.Display.meaning receiver.old memory.old).state.clock }
     ensures replied { IfOk result (λ y. (reply_of y, world D.Display.meaning receiver.new memory.new) ≡ step (world D.Display.meaning receiver.old memory.old) (call_of call.now)) }
     ensures shows { OnOk result (Reached D.Display.told receiver.old.display (effects (world D.Display.meaning receiver.old memory.old) (call_of call.now)) receiver.new.display) }
+    ensures wanting { OnErr result ((receiver.new ≡ receiver.old) × (memory.new ≡ memory.old)) }
 {
     match call {
         Call::Time { bytes } => Ok(Reply::Counted(receiver.read(memory, bytes))),

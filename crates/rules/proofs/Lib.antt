@@ -1,4 +1,4 @@
-mod Splits
+pub mod Splits
 pub mod Readings
 pub mod Moments
 pub mod Passes

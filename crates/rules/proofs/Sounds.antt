@@ -5,7 +5,7 @@ use Rattle.header.specs.Names.{NameRecord, same_name}
 use Rattle.header.specs.declared.kinds.Category.{Category}
 use Rattle.rules.specs.Assembly.{put}
 use Rattle.rules.specs.Clocks.{prepared, expired, tick, walk}
-use Rattle.rules.specs.Headers.{is_held, resent, begun}
+use Rattle.rules.specs.Headers.{is_held, with_transport, resent, begun}
 use Rattle.rules.specs.Soundness.{Sound, SlotSound, same_place, PlacesApart}
 use Rattle.rules.specs.Triggers.{Verdict, nothing, effect, late, wait}
 use Rattle.rules.specs.Worlds.{State, World, slot_at, any, holding, vacate, fire, armed, categorised}
@@ -300,6 +300,11 @@ sound_under s k t x i lt h =
           (λ e u. any_same (numbered e.load) s.slots k z (sym (ap (numbered e.load) i)) ∙ u) s.places h.places_held;
       one_each = h.one_place_each;
     })
+
+-- so it does where the slide takes a TransportId
+pub sound_transport : (s : State) (k t : ℕ) (x : Slide) → slot_at s k ≡ held x → k < 12 → Sound s → Sound (with_transport k t s)
+sound_transport s k t x i lt h =
+    subst Sound (ap (λ z. put k (moved (slides.resent t) z) s) (sym i)) (sound_under s k t x i lt h)
 
 -- the slide in slot k is sent again: what arrives under the TransportId is dropped, and it is still there
 module _ (s : State) (k t : ℕ) (x : Slide) (i : slot_at s k ≡ held x) (lt : k < 12) (h : Sound s) where

@@ -88,11 +88,14 @@ abbrev pub update_step : World → HeaderRecord → Answer × World
 update_step w h =
     on_some (first_slot (named h.name) w.state.slots) (Refused (receiver_fault SlideNotHeld), w) (λ k. amended k h w)
 
--- the slide in slot k is sent again under a TransportId; an object that arrives under that is dropped
+-- the slide in slot k takes a TransportId
+abbrev pub with_transport : ℕ → ℕ → State → State
+with_transport k transport s =
+    holding (slice_set s.slots k (moved (slides.resent transport) (slot_at s k))) s.waiting s.places s
+
+-- it is sent again under that: an object that arrives under it is dropped
 abbrev pub resent : ℕ → ℕ → State → State
-resent k transport s =
-    let t : State = vacate (comes transport) s in
-    holding (slice_set t.slots k (moved (slides.resent transport) (slot_at t k))) t.waiting t.places t
+resent k transport s = with_transport k transport (vacate (comes transport) s)
 
 -- a changed header for the slide in slot k: it must expire above the clock, and amends the slide
 abbrev pub changed : World → ℕ → HeaderRecord → ℕ → Answer × World

@@ -25,7 +25,7 @@ fn replies_to(heap: Global, calls: &[Call<'_>]) -> Result<Replayed<Panel>, Alloc
 {
     let panel = Panel::new(vec![in heap; 0u8; FRAME_SIZE]?);
     let mut memory = vec![in heap; 0u8; BODY_MEMORY]?;
-    replay(heap, panel, SLOT_SIZE, memory.as_mut_slice(), calls)
+    Ok(replay(heap, panel, SLOT_SIZE, memory.as_mut_slice(), calls)?)
 }
 
 // What is printed of an input.

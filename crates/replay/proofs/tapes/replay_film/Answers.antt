@@ -10,4 +10,4 @@ pub returns : goal.returns
 returns c =
     let f = c.args.film in
     let es = (account (film f.tape.items f.last) c.args.slot_size c.args.memory.now (map call_of c.args.calls.now)).history in
-    film_taped es f c.close.result (subst (Reached film_told f es) (sym c.close.ensures) c.in_ok-replay.ensures.shows)
+    film_taped es f c.close.result (subst (Reached film_told f es) (sym c.close.ensures) c.in_ok-replay.ensures.replays.shown)

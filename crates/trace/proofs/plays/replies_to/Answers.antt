@@ -2,7 +2,7 @@ use Rattle.std.proofs.Common.{ℕ, min, map, ap, ◌∙◌}
 use Rattle.calls.specs.Plain.{call_of}
 use Rattle.display.specs.Meaning.{blank}
 use Rattle.rules.specs.Runs.{opened, replies}
-use Rattle.std.proofs.lemmas.Result.{err_from_is_err_and, IfOk-weaker}
+use Rattle.std.proofs.lemmas.Result.{err_from_is_err_and}
 use Rattle.trace.proofs.plays.replies_to.Goals as goal
 
 pub returns-in_err-memory : goal.returns-in_err-memory
@@ -14,4 +14,4 @@ pub returns : goal.returns
 returns c =
     let screen = c.new-panel.ensures.means ∙ ap (λ (n : ℕ). blank (min n 65536)) c.in_ok-vec.ensures.len in
     let bodies = c.as_mut_slice.ensures.value ∙ c.in_ok-memory.ensures.items_if_clones_equal (λ y h. h) in
-    IfOk-weaker c.replay.result _ _ (λ x h. h.replied ∙ (λ i. replies (opened (screen i) 4096 (bodies i)) (map call_of c.args.calls.now))) c.replay.ensures.replays
+    c.in_ok-replay.ensures.replays.replied ∙ (λ i. replies (opened (screen i) 4096 (bodies i)) (map call_of c.args.calls.now))

@@ -9,13 +9,13 @@ use Rattle.slots.specs.Slides.{ends}
 use Rattle.receiver.proofs.parts.Parts.pass.Goals as goal
 
 pub invariant_of-self : goal.invariant_of-self
-invariant_of-self g c =
+invariant_of-self c =
     let p = c.args.self.now in
     let s : State = state_of p in
     record { sound = kept_sound _ (undue c.args.moment s) (ap (λ ws. holding s.slots ws s.places s) c.keep.ensures) (sound_filtered (λ e. not (leb e.key c.args.moment)) s (sound_of p)) }
 
 pub invariant_of-self-2 : goal.invariant_of-self-2
-invariant_of-self-2 g c =
+invariant_of-self-2 c =
     let p = c.args.self.now in
     let s : State = state_of p in
     let t = c.args.moment in
