@@ -24,12 +24,12 @@ module _ (w : World) (t : ℕ) (xs : List ℕ) where
       cond-true (fits_memory w) (on_header (header_of xs w.state.room) w t) misfit h ∙ ap (λ x. on_header x w t) (sym e)
 
 -- and what takes effect in it
-module _ (w : World) (xs : List ℕ) where
-  pub header_misfit_tells : fits_memory w ≡ false → header_effects w xs ≡ []
+module _ (w : World) (t : ℕ) (xs : List ℕ) where
+  pub header_misfit_tells : fits_memory w ≡ false → header_effects w t xs ≡ []
   unfolding header_effects
-  header_misfit_tells h = cond-false (fits_memory w) (on_header_effects (header_of xs w.state.room) w) [] h
+  header_misfit_tells h = cond-false (fits_memory w) (on_header_effects (header_of xs w.state.room) w t) [] h
 
-  pub header_says_tells : (r : Result HeaderRecord Fault) → fits_memory w ≡ true → r ≡ header_of xs w.state.room → header_effects w xs ≡ on_header_effects r w
+  pub header_says_tells : (r : Result HeaderRecord Fault) → fits_memory w ≡ true → r ≡ header_of xs w.state.room → header_effects w t xs ≡ on_header_effects r w t
   unfolding header_effects
   header_says_tells r h e =
-      cond-true (fits_memory w) (on_header_effects (header_of xs w.state.room) w) [] h ∙ ap (λ x. on_header_effects x w) (sym e)
+      cond-true (fits_memory w) (on_header_effects (header_of xs w.state.room) w t) [] h ∙ ap (λ x. on_header_effects x w t) (sym e)

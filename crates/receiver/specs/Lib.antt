@@ -6,5 +6,5 @@ pub mod Receivers
 pub mod Settings
 pub mod Bodies
 pub mod Images
-pub mod Updates
+pub mod Heard
 pub mod Answers

@@ -1,4 +1,4 @@
-// What an image header does.
+// What an image header is, and what one of a new object does.
 ghost use Rattle.std.specs.Prelude.{◌≡◌, ℕ, ◌<◌, ◌≤◌, not, List, false, filter, slice_index_or};
 ghost use Rattle.display.specs.Meaning.{Meaning};
 ghost use Rattle.header.specs.Finds.{name_of_label};
@@ -6,13 +6,16 @@ ghost use Rattle.header.specs.Headers.{record_of};
 ghost use Rattle.header.specs.Kept.{name_of};
 ghost use Rattle.rack.specs.Listed.{filed};
 ghost use Rattle.receiver.specs.Answers.{Stays};
+ghost use Rattle.receiver.specs.Heard.{HeardFits, heard_by, heard_by_effects};
 ghost use Rattle.receiver.specs.Images.{AnnouncesImage};
 ghost use Rattle.receiver.specs.Views.{state_of, world_of, said};
+ghost use Rattle.rules.specs.Effects.{image_effects};
 ghost use Rattle.rules.specs.Headers.{begun, new_image, image_step};
 ghost use Rattle.slots.specs.Seen.{all_seen};
 ghost use Rattle.slots.specs.Slides.{free, image_of, numbered, passed};
 
 use crate::faults::{EXPIRY_NOT_AHEAD, NO_SLOT_TO_USE};
+use crate::headers::Heard;
 use crate::parts::Parts;
 use header::kinds::Header;
 use header::names::Name;
@@ -24,7 +27,7 @@ use slots::images::{ComesAgain, version_of};
 use slots::indices::SlotIndex;
 use slots::moves::passed;
 use slots::records::{Arrival, Slots};
-use slots::sought::Versioned;
+use slots::sought::{SentUnder, SlotTest, Versioned};
 
 // The last accession number that can be given.
 const LAST_NUMBER: u32 = u32::MAX;
@@ -76,27 +79,30 @@ impl Parts {
         Ok(Answer::Taken(self.given))
     }
 
-    // Takes an image header: a repeat if a slide of its name and version is held, or if it arrives just so.
-    #[inline]
-    pub(crate) fn image(&mut self, transport: u16, header: &Header<'_>) -> Result<Answer, Fault>
-        requires { AnnouncesImage self.old.room (record_of header.now) }
-        ensures world { (m : Meaning) (memory : List ℕ) → (said result, world_of self.new memory m) ≡ image_step (world_of self.old memory m) transport (image_of (record_of header.now)) }
-        ensures refused { Stays (said result) self.old self.new }
+    // What an image header is, by the slides that are held and the objects that arrive.
+    pub(crate) fn image_heard(&self, transport: u16, header: &Header<'_>) -> Heard
+        requires { AnnouncesImage self.now.room (record_of header.now) }
+        ensures steps { (m : Meaning) (memory : List ℕ) → image_step (world_of self.now memory m) transport (record_of header.now) ≡ heard_by result (world_of self.now memory m) transport (record_of header.now) }
+        ensures tells { (m : Meaning) (memory : List ℕ) → image_effects (world_of self.now memory m) transport (record_of header.now) ≡ heard_by_effects result (world_of self.now memory m) transport (record_of header.now) }
+        ensures fits { HeardFits result (state_of self.now) transport (record_of header.now) }
     {
         let versioned = Versioned {
             name: header.name,
             version: version_of(header),
         };
         if let Some(k) = self.slots.find(&versioned) {
-            return Ok(Answer::Repeat(self.number_at(k)));
+            if SentUnder(transport).passes(self.slots.at(k)) {
+                return Heard::Again(self.number_at(k));
+            }
+            return Heard::Changed(k);
         }
         let again = ComesAgain {
             transport,
             header: *header,
         };
-        if let Some(k) = self.slots.find(&again) {
-            return Ok(Answer::Repeat(self.number_at(k)));
+        match self.slots.find(&again) {
+            Some(k) => Heard::Again(self.number_at(k)),
+            None => Heard::New,
         }
-        self.new_image(transport, header)
     }
 }

@@ -15,6 +15,7 @@ mod parts;
 pub mod phases;
 mod questions;
 pub mod receivers;
+mod resent;
 mod segments;
 mod settings;
 mod sieves;

@@ -9,42 +9,46 @@ ghost use Rattle.rules.specs.Groups.{group_step};
 ghost use Rattle.rules.specs.Headers.{header_step};
 ghost use Rattle.rules.specs.Reached.{Reached};
 
+use crate::faults::{EXPIRY_NOT_AHEAD, NOT_HELD};
 use crate::filings::Received;
+use crate::headers::Heard;
 use crate::receivers::Receiver;
 use datagroup::groups::Group;
 use datagroup::read_group;
 use display::Display;
-use header::kinds::Kind;
 use rules::answers::{Answer, GroupAnswer};
 use slots::bodies::Sent;
+use slots::moves::passed;
+use slots::sought::Arriving;
 
 impl<D: Display, P> Receiver<D, P> {
-    // Takes a header that is sent under a TransportId: an image begins an object, an update changes a held slide.
-    #[tactic(auto, using(crate::proofs::Tellings::update_told))]
+    // Takes a header that is sent under a TransportId: an image begins an object or is sent again for a held slide, an update
+    // changes a held slide.
     pub fn header(&mut self, memory: &[u8], transport: u16, bytes: &[u8]) -> Answer
         ensures world { (result, world D.Display.meaning self.new memory.now) ≡ header_step (world D.Display.meaning self.old memory.now) transport bytes.now }
-        ensures shows { Reached D.Display.told self.old.display (header_effects (world D.Display.meaning self.old memory.now) bytes.now) self.new.display }
+        ensures shows { Reached D.Display.told self.old.display (header_effects (world D.Display.meaning self.old memory.now) transport bytes.now) self.new.display }
         ensures refused { Stays result self.old self.new }
     {
         let header = match self.parts.header_in(memory, bytes) {
             Ok(header) => header,
             Err(fault) => return Answer::Refused(fault),
         };
-        match header.kind {
-            Kind::Image => self
+        match self.parts.heard(transport, &header) {
+            Heard::New => self
                 .parts
-                .image(transport, &header)
+                .new_image(transport, &header)
                 .unwrap_or_else(Answer::Refused),
-            Kind::Update => {
-                let (k, number) = match self.parts.held(header.name) {
-                    Ok(found) => found,
-                    Err(fault) => return Answer::Refused(fault),
-                };
-                self.parts.recategorise(header.category, number);
-                self.parts
-                    .arm(&mut self.display, memory, k, header.trigger)
-                    .told(number, Answer::Changed(number))
+            Heard::Again(number) => Answer::Repeat(number),
+            Heard::Changed(_) if passed(self.parts.clock, header.expire) => {
+                Answer::Refused(EXPIRY_NOT_AHEAD)
             }
+            Heard::Changed(k) => {
+                self.parts.vacate(&Arriving(transport));
+                self.parts.resend(k, transport);
+                self.parts.amend(&mut self.display, memory, k, &header)
+            }
+            Heard::Update(k) => self.parts.amend(&mut self.display, memory, k, &header),
+            Heard::Stray => Answer::Refused(NOT_HELD),
         }
     }
 

@@ -1,32 +1,39 @@
-// What an update header changes.
+// What an update header is, and what it changes; a changed header changes that too.
 ghost use Rattle.std.specs.Prelude.{◌≡◌, ℕ, true, List};
 ghost use Rattle.display.specs.Meaning.{Meaning};
-ghost use Rattle.header.specs.Finds.{name_of_label};
-ghost use Rattle.receiver.specs.Updates.{Found};
+ghost use Rattle.header.specs.Headers.{record_of};
+ghost use Rattle.receiver.specs.Heard.{HeardFits, heard_by, heard_by_effects};
 ghost use Rattle.receiver.specs.Views.{state_of, world_of};
-ghost use Rattle.rules.specs.Headers.{recategorised};
-ghost use Rattle.rules.specs.Worlds.{any};
+ghost use Rattle.rules.specs.Effects.{amended_effects, update_effects};
+ghost use Rattle.rules.specs.Headers.{is_held, recategorised, amended, update_step};
+ghost use Rattle.rules.specs.Reached.{Reached};
+ghost use Rattle.rules.specs.Worlds.{slot_at, any};
 ghost use Rattle.slots.specs.Slides.{numbered};
 
-use crate::faults::NOT_HELD;
+use crate::headers::Heard;
 use crate::parts::Parts;
-use header::kinds::{Category, Label};
-use refusal::Fault;
+use display::Display;
+use header::kinds::{Category, Header};
+use rules::answers::Answer;
 use slots::images::real_category;
 use slots::indices::SlotIndex;
 use slots::sought::Named;
 
 impl Parts {
-    // The slot of the held slide of a name, with its accession number.
-    pub(crate) fn held(&self, name: Label<'_>) -> Result<(SlotIndex, u32), Fault>
-        ensures { Found result (name_of_label name.entry) (state_of self.now) }
+    // What an update header is, by the slides that are held.
+    pub(crate) fn update_heard(&self, header: &Header<'_>) -> Heard
+        ensures steps { (m : Meaning) (memory : List ℕ) (transport : ℕ) → update_step (world_of self.now memory m) (record_of header.now) ≡ heard_by result (world_of self.now memory m) transport (record_of header.now) }
+        ensures tells { (m : Meaning) (memory : List ℕ) (transport : ℕ) → update_effects (world_of self.now memory m) (record_of header.now) ≡ heard_by_effects result (world_of self.now memory m) transport (record_of header.now) }
+        ensures fits { (transport : ℕ) → HeardFits result (state_of self.now) transport (record_of header.now) }
     {
-        let k = self.slots.find(&Named(name)).ok_or(NOT_HELD)?;
-        Ok((k, self.number_at(k)))
+        match self.slots.find(&Named(header.name)) {
+            Some(k) => Heard::Update(k),
+            None => Heard::Stray,
+        }
     }
 
-    // Puts a held slide into the category that an update gives, if it gives one; 00 00 means none.
-    pub(crate) fn recategorise(&mut self, category: Option<Category>, number: u32)
+    // Puts a held slide into the category that a header gives, if it gives one; 00 00 means none.
+    fn recategorise(&mut self, category: Option<Category>, number: u32)
         requires { any (numbered number) (state_of self.old).slots ≡ true }
         ensures world { (m : Meaning) (memory : List ℕ) → world_of self.new memory m ≡ recategorised category number (world_of self.old memory m) }
         ensures slots { (state_of self.new).slots ≡ (state_of self.old).slots }
@@ -34,5 +41,23 @@ impl Parts {
         if category.is_some() {
             self.categorise(real_category(category), number);
         }
+    }
+    // What a header's trigger and category do for the slide in slot k, each where it is given.
+    #[tactic(auto, using(crate::proofs::Tellings::update_told))]
+    pub(crate) fn amend<D: Display>(
+        &mut self,
+        display: &mut D,
+        memory: &[u8],
+        k: SlotIndex,
+        header: &Header<'_>,
+    ) -> Answer
+        requires { is_held (slot_at (state_of self.old) k.index) ≡ true }
+        ensures world { (result, world_of self.new memory.now (D.Display.meaning display.new)) ≡ amended k.index (record_of header.now) (world_of self.old memory.now (D.Display.meaning display.old)) }
+        ensures reached { Reached D.Display.told display.old (amended_effects k.index (record_of header.now) (world_of self.old memory.now (D.Display.meaning display.old))) display.new }
+    {
+        let number = self.number_at(k);
+        self.recategorise(header.category, number);
+        self.arm(display, memory, k, header.trigger)
+            .told(number, Answer::Changed(number))
     }
 }

@@ -23,15 +23,15 @@ use Rattle.rules.specs.Assembly.{on_landing, segment_of, segment_step}
 use Rattle.rules.specs.Calls.{Reply, time, counted, refused}
 use Rattle.rules.specs.Clocks.{on_setting, on_reading, setting_step, reading_step}
 use Rattle.rules.specs.Groups.{on_group, group_step}
-use Rattle.rules.specs.Headers.{slot_for, by_kind, on_header, header_step}
+use Rattle.rules.specs.Headers.{slot_for, by_kind, on_header, header_step, resent, amended}
 use Rattle.rules.specs.Runs.{step}
 use Rattle.rules.specs.Triggers.{Verdict, nothing, effect, late, wait}
-use Rattle.rules.specs.Worlds.{World, slot_at, fits_memory, armed}
+use Rattle.rules.specs.Worlds.{World, slot_at, fits_memory, with_state, armed}
 use Rattle.rules.specs.declared.answers.Answer.{Answer}
 use Rattle.rules.specs.declared.answers.Answer.TheVariants.{Refused}
 use Rattle.slots.specs.Searches.{first_slot}
 use Rattle.slots.specs.Segments.{landing, grown, complete}
-use Rattle.slots.specs.Slides.{Object, image_of, comes, comes_again, named, versioned, passed}
+use Rattle.slots.specs.Slides.{Object, image_of, comes, comes_again, named, versioned, sent_under, passed}
 use Rattle.slots.specs.declared.progress.Landing.{Landing}
 use Rattle.slots.specs.declared.progress.Landing.TheVariants.{Misfit, Again, At}
 use Rattle.slots.specs.declared.progress.Segment.{Segment}
@@ -59,6 +59,9 @@ record Starts (o : Reply × World) : Type 0 where
 still : {A : Type 0} (w : World) (a : A) → Leaves w (a, w)
 still w a = record { same = refl }
 
+amended_clock : (w u : World) (k : ℕ) (h : HeaderRecord) → u.state.clock ≡ w.state.clock → Leaves w (amended k h u)
+amended_clock w u k h e = record { same = armed_clock _ k _ ∙ (recategorised_clock h.category _ u ∙ e) }
+
 module _ (w : World) where
   by_kind_clock : (k : Kind) (t : ℕ) (h : HeaderRecord) → Leaves w (by_kind k w t h)
   by_kind_clock Image t h =
@@ -69,9 +72,11 @@ module _ (w : World) where
       (cond_both (passed w.state.clock i.expire) _ _ P (λ e. still w _)
       (λ e. cond_both (eqb w.state.given 4294967295) _ _ P (λ d. still w _) (λ d. on_some_both P (slot_for w.state t) _ _ (still w _) (λ k z. record { same = refl }))))
       (λ k z. still w _))
-      (λ k z. still w _)
+      (λ k z.
+      cond_both (sent_under t (slot_at w.state k)) _ _ P (λ e. still w _)
+      (λ e. cond_both (passed w.state.clock i.expire) _ _ P (λ d. still w _) (λ d. amended_clock w (with_state (resent k t w.state) w) k h refl)))
   by_kind_clock Update t h =
-      on_some_both (λ (o : Answer × World). Leaves w o) (first_slot (named h.name) w.state.slots) _ _ (still w _) (λ k z. record { same = armed_clock _ k _ ∙ recategorised_clock h.category _ w })
+      on_some_both (λ (o : Answer × World). Leaves w o) (first_slot (named h.name) w.state.slots) _ _ (still w _) (λ k z. amended_clock w w k h refl)
 
   on_header_clock : (r : Result HeaderRecord Fault) (t : ℕ) → Leaves w (on_header r w t)
   on_header_clock (Err e) t = still w (Refused e)

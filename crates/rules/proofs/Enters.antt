@@ -29,7 +29,7 @@ use Rattle.rules.specs.Calls.{Call, header, segment, group, time, find_name, nex
 use Rattle.rules.specs.Clocks.{prepared, expired, tick, walk, walked, set_to, on_setting, on_reading, setting_step, reading_step, time_step}
 use Rattle.rules.specs.Effects.{filed_effects, tick_effects, walk_effects}
 use Rattle.rules.specs.Groups.{on_group, group_step}
-use Rattle.rules.specs.Headers.{receiver_fault, slot_for, begun, image_step, told_update, recategorised, update_step, by_kind, on_header, header_step, idle}
+use Rattle.rules.specs.Headers.{receiver_fault, slot_for, begun, image_step, told_update, recategorised, update_step, by_kind, on_header, header_step, idle, resent, amended}
 use Rattle.rules.specs.Ledgers.{Ledger, Known, body_in, leave, happen, instant, pass, start, arming, noted, kept, with_piece, filed_in, said, on_said, known_from, grouped, on_answer, on_counted, moved_to, entered, blank, ledger}
 use Rattle.rules.specs.Runs.{opened, after, replies, step}
 use Rattle.rules.specs.Soundness.{Sound, SlotSound}
@@ -43,7 +43,7 @@ use Rattle.slots.proofs.Numbers.{has_none}
 use Rattle.slots.specs.Searches.{first_slot}
 use Rattle.slots.specs.Segments.{has, fits, offset, piece_with, last_with, landing, grown, complete}
 use Rattle.slots.specs.Slides as slides
-use Rattle.slots.specs.Slides.{Slot, free, arriving, held, Object, Slide, arrival, slide_of, with_progress, image_of, comes, named, versioned, comes_again, ends, passed, number_in}
+use Rattle.slots.specs.Slides.{Slot, free, arriving, held, Object, Slide, arrival, slide_of, with_progress, image_of, resent_slide, comes, named, versioned, comes_again, sent_under, ends, passed, number_in}
 use Rattle.slots.specs.declared.progress.Landing.{Landing}
 use Rattle.slots.specs.declared.progress.Landing.TheVariants.{At}
 use Rattle.slots.specs.declared.progress.Segment.{Segment}
@@ -51,14 +51,14 @@ use Rattle.std.proofs.lemmas.List.{append-nil, append_assoc, drop-take, length-s
 use Rattle.std.proofs.lemmas.Bool.{cond_both, cases_lt, eqb-true, eqb-false, leb-true, ltb-false, le-leb, ne_eqb, eq-eqb, and_parts, or_parts, both_ways, not-true}
 use Rattle.std.specs.Result.{result_ok}
 use Rattle.rules.proofs.Finds.{found_at, on_some_both, on_arriving_both}
-use Rattle.rules.proofs.Follows.{newest, Stands, Comes, Knows, Follows, timed, vacated, fired, later_only, categories_changed, arms, arming_told, due_told}
+use Rattle.rules.proofs.Follows.{newest, Stands, Comes, Knows, Follows, timed, vacated, fired, later_only, categories_changed, arms, resends, arming_told, due_told}
 use Rattle.rules.proofs.Pairs.{Both, none, more}
 use Rattle.rules.proofs.Passes.{getD_vacate}
 use Rattle.slots.proofs.Pieces.{Piece, Pieces, Fits, fit, tight_inside, next_piece, added, completed}
 use Rattle.rules.proofs.Readings.{walk_clock}
 use Rattle.rules.proofs.Choices.{slot_for_some, idle_undone}
-use Rattle.rules.proofs.Kept.{sound_step, sound_recategorised, held_named, all_free}
-use Rattle.rules.proofs.Sounds.{placed_state, at_set, sound_vacate, sound_filtered, sound_walk, sound_received, sound_filed, sound_categorised}
+use Rattle.rules.proofs.Kept.{sound_step, sound_recategorised, recategorised_slot, held_named, held_versioned, versioned_within, all_free}
+use Rattle.rules.proofs.Sounds.{placed_state, at_set, sound_vacate, sound_filtered, sound_walk, sound_received, sound_filed, sound_categorised, resent_slot, sound_resent}
 
 -- parts of memory beside a write
 part_is : (a k : ℕ) (m : List ℕ) → part a k m ≡ drop a (take (a + k) m)
@@ -383,10 +383,6 @@ module _ (m : Meaning) (keeps : Keeps m) where
   recategorises None n w l sound h = h
   recategorises (Some c) n w l sound h = categories_changed m keeps w l sound h (slides.real_category c) n
 
-  pub recategorised_slot : (c : Option Category) (n : ℕ) (w : World) (k : ℕ) → slot_at (recategorised c n w).state k ≡ slot_at w.state k
-  recategorised_slot None n w k = refl
-  recategorised_slot (Some c) n w k = refl
-
   -- a header says the same whatever the slot size, if it fits
   pub wider : (xs : List ℕ) (a b : ℕ) (x : HeaderRecord) → a ≤ b → header_of xs a ≡ Ok x → header_of xs b ≡ Ok x
   unfolding header_of
@@ -405,8 +401,24 @@ module _ (m : Meaning) (keeps : Keeps m) where
   quiet (Err e) w l h = h
   quiet (Ok x) w l h = h
 
+  -- a held slide is amended
+  amends : (w : World) (l : Ledger) (t : ℕ) (xs : List ℕ) (k : ℕ) (x : HeaderRecord) (y : Slide) → Sound w.state → Follows m w l → slot_at w.state k ≡ held y → said xs ≡ Ok x → InTime x.trigger → Goes l (header t xs) (answered (amended k x w).0, (amended k x w).1)
+  unfolding entered
+  amends w l t xs k x y sound h i said-x ti =
+      let n : ℕ = number_in (slot_at w.state k) in
+      let e : n ≡ y.number = ap number_in i in
+      let v : Verdict = verdict w.state.clock x.trigger in
+      let w' : World = recategorised x.category n w in
+      let sound' : Sound w'.state = sound_recategorised x.category k w y i sound in
+      let g : Follows m (armed v k w') (arming v y.number l) =
+      arms m keeps w' l sound' (recategorises x.category n w l sound h) v k y (recategorised_slot x.category n w k ∙ i) (λ d q. timed w.state.clock x.trigger d ti q) in
+      let g' : Follows m (armed v k w') (arming (verdict l.clock x.trigger) n l) =
+      subst₂ (λ c j. Follows m (armed v k w') (arming (verdict c x.trigger) j l)) (sym h.clock) (sym e) g in
+      subst (λ r. Follows m (armed v k w') (on_said r l (λ u. on_answer (told_update v n) l (λ j. noted j (known_from u) l) (λ j. arming (verdict l.clock u.trigger) j l)))) (sym said-x)
+      (on_told_update v n (armed v k w') l _ _ g')
+
   -- an image
-  images : (w : World) (l : Ledger) (t : ℕ) (xs : List ℕ) (x : HeaderRecord) → Sound w.state → Follows m w l → fits_memory w ≡ true → said xs ≡ Ok x → headers.Sound w.state.room x → x.kind ≡ Image → Goes l (header t xs) (answered (image_step w t (image_of x)).0, (image_step w t (image_of x)).1)
+  images : (w : World) (l : Ledger) (t : ℕ) (xs : List ℕ) (x : HeaderRecord) → Sound w.state → Follows m w l → fits_memory w ≡ true → said xs ≡ Ok x → headers.Sound w.state.room x → x.kind ≡ Image → Goes l (header t xs) (answered (image_step w t x).0, (image_step w t x).1)
   unfolding entered
   images w l t xs x sound h fm said-x ok kind =
       let P : Answer × World → Type 0 = λ o. Follows m o.1 (entered l (header t xs) (answered o.0)) in
@@ -423,7 +435,14 @@ module _ (m : Meaning) (keeps : Keeps m) where
       subst (λ r. Follows m (with_state (begun k t (image_of x) w.state) w) (on_said r l (λ y. noted (suc w.state.given) (known_from y) l))) (sym said-x)
       (heads w l sound h k t (image_of x) (known_from x) z fm body.0 body.1 ok.trigger refl refl refl (λ j. refl))))))
       (λ k z. q))
-      (λ k z. q)
+      (λ k z.
+      let (y, i) = held_versioned w.state x.name (image_of x).version k z in
+      let lt : k < 12 = versioned_within w.state x.name (image_of x).version k sound z in
+      cond_both (sent_under t (slot_at w.state k)) _ _ P (λ e. q)
+      (λ e.
+      cond_both (passed w.state.clock x.expire) _ _ P (λ d. q)
+      (λ d.
+      amends (with_state (resent k t w.state) w) l t xs k x (resent_slide t y) (sound_resent w.state k t y i lt sound) (resends m keeps w l sound h k t y i lt) (resent_slot w.state k t y i lt sound) said-x ok.trigger)))
 
   -- an update
   updates : (w : World) (l : Ledger) (t : ℕ) (xs : List ℕ) (x : HeaderRecord) → Sound w.state → Follows m w l → said xs ≡ Ok x → headers.Sound w.state.room x → Goes l (header t xs) (answered (update_step w x).0, (update_step w x).1)
@@ -431,19 +450,7 @@ module _ (m : Meaning) (keeps : Keeps m) where
   updates w l t xs x sound h said-x ok =
       let P : Answer × World → Type 0 = λ o. Follows m o.1 (entered l (header t xs) (answered o.0)) in
       on_some_both P (first_slot (named x.name) w.state.slots) _ _ (quiet (said xs) w l h)
-      (λ k z.
-      let (y, i) = held_named w.state x.name k z in
-      let n : ℕ = number_in (slot_at w.state k) in
-      let e : n ≡ y.number = ap number_in i in
-      let v : Verdict = verdict w.state.clock x.trigger in
-      let w' : World = recategorised x.category n w in
-      let sound' : Sound w'.state = subst (λ j. Sound (recategorised x.category j w).state) (sym e) (sound_recategorised x.category k w y i sound) in
-      let g : Follows m (armed v k w') (arming v y.number l) =
-      arms m keeps w' l sound' (recategorises x.category n w l sound h) v k y (recategorised_slot x.category n w k ∙ i) (λ d q. timed w.state.clock x.trigger d ok.trigger q) in
-      let g' : Follows m (armed v k w') (arming (verdict l.clock x.trigger) n l) =
-      subst₂ (λ c j. Follows m (armed v k w') (arming (verdict c x.trigger) j l)) (sym h.clock) (sym e) g in
-      subst (λ r. Follows m (armed v k w') (on_said r l (λ u. on_answer (told_update v n) l (λ j. noted j (known_from u) l) (λ j. arming (verdict l.clock u.trigger) j l)))) (sym said-x)
-      (on_told_update v n (armed v k w') l _ _ g'))
+      (λ k z. let (y, i) = held_named w.state x.name k z in amends w l t xs k x y sound h i said-x ok.trigger)
 
   headed : (w : World) (l : Ledger) (t : ℕ) (xs : List ℕ) → Sound w.state → Follows m w l → Goes l (header t xs) (answered (header_step w t xs).0, (header_step w t xs).1)
   unfolding header_step entered

@@ -89,6 +89,12 @@ any_set test (y ∷ xs) (suc k) x e h = go (test y) refl h (any_set test xs k x 
     go true d q ih = or_left _ _ d
     go false d q ih = or_right _ _ (ih q)
 
+-- and as many pass where the new one passes as the old one did
+pub any_same : (test : Slot → Bool) (xs : List Slot) (k : ℕ) (x : Slot) → test x ≡ test (get_or xs k free) → any test (set xs k x) ≡ any test xs
+any_same test [] k x e = refl
+any_same test (y ∷ ys) zero x e = ap (λ (b : Bool). b || any test ys) e
+any_same test (y ∷ ys) (suc k) x e = ap (λ (b : Bool). test y || b) (any_same test ys k x e)
+
 pub any_at : (test : Slot → Bool) → test free ≡ false → (xs : List Slot) (k : ℕ) → test (get_or xs k free) ≡ true → any test xs ≡ true
 any_at test z [] k h = absurd (both_ways (test free) z h)
 any_at test z (x ∷ xs) zero h = or_left (test x) _ h

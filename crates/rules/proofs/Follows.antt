@@ -1,5 +1,5 @@
 -- The ledger follows the receiver: what it means, and the primitives.
-use Rattle.std.proofs.Common.{◌≡◌, ℕ, ◌+◌, ◌*◌, ◌≤◌, Bool, true, false, cond, not, eqb, ltb, leb, ◌⊎◌, List, [], ◌∷◌, ◌++◌, map, length, get_or, Some, None, filter, Option, sym, refl, ap, ◌∙◌, subst, ap₂, inl, inr, arith}
+use Rattle.std.proofs.Common.{◌≡◌, ℕ, ◌+◌, ◌*◌, ◌<◌, ◌≤◌, Bool, true, false, cond, not, eqb, ltb, leb, ◌⊎◌, List, [], ◌∷◌, ◌++◌, map, length, get_or, set, Some, None, filter, Option, sym, refl, ap, ◌∙◌, subst, ap₂, inl, inr, arith}
 use Rattle.display.proofs.Shown.{accepts_true}
 use Rattle.display.specs.Meaning.{Meaning, Card, Keeps, accepts}
 use Rattle.header.specs.Sound.{InTime}
@@ -7,6 +7,8 @@ use Rattle.header.specs.declared.kinds.Category.{Category}
 use Rattle.moment.specs.declared.times.Time.{Time}
 use Rattle.moment.specs.declared.times.Time.TheVariants.{Now, At}
 use Rattle.rules.specs.Effects.{arming_effects, due_effects}
+use Rattle.rules.specs.Assembly.{put}
+use Rattle.rules.specs.Headers.{resent}
 use Rattle.rules.specs.Laws.{card_of, latest}
 use Rattle.rules.specs.Ledgers.{Ledger, Known, body_in, leave, effect_of, happen, cleared, arming}
 use Rattle.rules.specs.Soundness.{Sound, SlotSound}
@@ -14,14 +16,14 @@ use Rattle.rules.specs.Triggers.{Verdict, nothing, effect, late, wait, verdict, 
 use Rattle.rules.specs.Worlds.{State, World, slot_at, body_at, holding, with_state, vacate, undone, show_all, effect_at, due, fire, armed, categorised}
 use Rattle.slots.specs.Pieces.{part}
 use Rattle.shelf.specs.declared.entries.Entry.{Entry}
-use Rattle.slots.specs.Slides.{Slot, free, arriving, held, Object, Slide, number_in, size_in}
+use Rattle.slots.specs.Slides.{Slot, free, arriving, held, Object, Slide, resent_slide, comes, number_in, size_in}
 use Rattle.std.proofs.lemmas.List.{append-nil, length-take, length-drop}
 use Rattle.std.proofs.lemmas.Bool.{cond-false, cases_eq, ne_eqb, eq-eqb, not-true}
 use Rattle.std.specs.List.{AllByRecursion}
 use Rattle.rules.proofs.Moments.{all_append}
-use Rattle.rules.proofs.Sounds.{freed}
-use Rattle.rules.proofs.Pairs.{Both, none, more, both_kept, both_map, both_all, both_shelved}
-use Rattle.rules.proofs.Passes.{getD_vacate}
+use Rattle.rules.proofs.Sounds.{freed, at_set, sound_vacate, still_held, resent_is}
+use Rattle.rules.proofs.Pairs.{Both, none, more, both_kept, both_tied, both_map, both_all, both_shelved}
+use Rattle.rules.proofs.Passes.{kept_all, getD_vacate, every}
 use Rattle.slots.proofs.Pieces.{Pieces}
 
 -- the last moment that a time field can name
@@ -95,6 +97,21 @@ timed c (Some (At t)) m b e = go (eqb t c) (ltb t c) e
     go false true e = let z : ◌≡◌ {A = ℕ} 0 1 = cc in absurd (omega arith)
     go false false e = let z : t ≡ m = cc in rw (← z) b.1
 
+-- the slide in slot k has another TransportId: what waits stands as before
+stand_under : (xs : List Slot) (k t : ℕ) (x : Slide) (a b : Entry ℕ) → get_or xs k free ≡ held x → k < length xs → Stands xs a b → Stands (set xs k (held (resent_slide t x))) a b
+stand_under xs k t x a b i lt r =
+    elim (at_set xs k (held (resent_slide t x)) lt a.load) [
+      | inl e ↦
+          let q : held r.slide ≡ held x = sym r.slot ∙ (ap (λ n. get_or xs n free) e.0 ∙ i) in
+          record { when = r.when; soon = r.soon; slide = resent_slide t x; slot = e.1; number = sym (ap number_in q) ∙ r.number }
+      | inr e ↦ record { when = r.when; soon = r.soon; slide = r.slide; slot = e.1 ∙ r.slot; number = r.number }
+    ]
+
+-- where no slide leaves, nothing does
+none_leave : (l : Ledger) → leave (λ y. false) l ≡ l
+none_leave l =
+    λ i. record { clock = l.clock; known = l.known; waiting = kept_all (λ e. true) l.waiting (every (λ e. true ≡ true) (λ e. refl) l.waiting) i; history = l.history }
+
 module _ (m : Meaning) (keeps : Keeps m) where
   abbrev Fine : Effect → Type 0
   Fine x = accepts m x.number x.moment x.body ≡ true
@@ -164,6 +181,26 @@ module _ (m : Meaning) (keeps : Keeps m) where
           knows = λ k.
               rw (getD_vacate test s.slots k)
               (freed (test (slot_at s k)) (slot_at s k) (λ x. Knows (k * S) S w.memory (l.known (number_in x)) x) tt (h.knows k));
+          display = h.display;
+          accepted = h.accepted;
+        }
+
+    -- the slide in slot k has another TransportId
+    under : (k t : ℕ) (x : Slide) → slot_at s k ≡ held x → k < length s.slots → Follows m (with_state (put k (held (resent_slide t x)) s) w) l
+    under k t x i lt =
+        record {
+          clock = h.clock;
+          early = h.early;
+          framed = h.framed;
+          waits = both_tied (λ a b r. stand_under s.slots k t x a b i lt r) h.waits;
+          knows = λ j.
+              let P : Slot → Type 0 = λ z. Knows (j * S) S w.memory (l.known (number_in z)) z in
+              elim (at_set s.slots k (held (resent_slide t x)) lt j) [
+                | inl e ↦
+                    let g = holds j x (ap (λ n. slot_at s n) e.0 ∙ i) in
+                    subst P (sym e.1) (record { name = g.name; expire = g.expire; there = g.there; body = g.body })
+                | inr e ↦ subst P (sym e.1) (h.knows j)
+              ];
           display = h.display;
           accepted = h.accepted;
         }
@@ -280,3 +317,13 @@ module _ (m : Meaning) (keeps : Keeps m) where
         waits_changed _ _ _
         (both_shelved (Stands s.slots) (record { key = t; load = k }) (record { key = t; load = x.number }) (λ a b r. r.when)
         (record { when = refl; soon = ok t refl; slide = x; slot = i; number = refl }) (undoes k x i))
+
+  -- the slide in slot k is sent again: the ledger sees nothing of that
+  pub resends : (w : World) (l : Ledger) → Sound w.state → Follows m w l → (k t : ℕ) (x : Slide) → slot_at w.state k ≡ held x → k < 12 → Follows m (with_state (resent k t w.state) w) l
+  resends w l sound h k t x i lt =
+      let s : State = w.state in
+      let u : World = with_state (vacate (comes t) s) w in
+      let sound' : Sound u.state = sound_vacate (comes t) s sound in
+      let g : Follows m u l = subst (Follows m u) (none_leave l) (vacated w l sound h (comes t) (λ y. false) (λ a y p q. refl)) in
+      subst (λ v. Follows m (with_state v w) l) (sym (resent_is s k t x i lt sound))
+      (under u l sound' g k t x (still_held s k t x i lt sound) (omega (arith, sound'.twelve, lt)))

@@ -35,9 +35,9 @@ segment_misfit : (w : World) (t n : ℕ) (last : Bool) (xs : List ℕ) → fits_
 unfolding segment_step
 segment_misfit w t n last xs e = cond-false _ _ _ e
 
-header_none : (w : World) (xs : List ℕ) → fits_memory w ≡ false → header_effects w xs ≡ []
+header_none : (w : World) (t : ℕ) (xs : List ℕ) → fits_memory w ≡ false → header_effects w t xs ≡ []
 unfolding header_effects
-header_none w xs e = cond-false _ _ _ e
+header_none w t xs e = cond-false _ _ _ e
 
 segment_none : (w : World) (t n : ℕ) (last : Bool) (xs : List ℕ) → fits_memory w ≡ false → segment_effects w t n last xs ≡ []
 unfolding segment_effects
@@ -89,7 +89,7 @@ effects_plainly w (group xs) = go (group_of xs) refl
   where
     go : (r : Result Group Fault) → group_of xs ≡ r → effects w (group xs) ≡ effects w (asked_by r (group xs))
     go (Err e) i = refl
-    go (Ok (groups.header t ys)) i = took_effect w xs (Ok (groups.header t ys)) i (header_effects w ys) refl (header_none w ys) (fits_memory w) refl
+    go (Ok (groups.header t ys)) i = took_effect w xs (Ok (groups.header t ys)) i (header_effects w t ys) refl (header_none w t ys) (fits_memory w) refl
     go (Ok (groups.segment t n last ys)) i = took_effect w xs (Ok (groups.segment t n last ys)) i (segment_effects w t n last ys) refl (segment_none w t n last ys) (fits_memory w) refl
     go (Ok groups.other) i = refl
 

@@ -12,28 +12,28 @@ use Rattle.moment.specs.Field.{time_of}
 use Rattle.moment.specs.declared.times.Time.{Time}
 use Rattle.moment.specs.declared.times.Time.TheVariants.{Now, At}
 use Rattle.refusal.specs.declared.Fault.{Fault}
-use Rattle.rules.proofs.Enters.{segments, filing_told, ticks_told, recategorises, recategorised_slot, wider, nexts}
+use Rattle.rules.proofs.Enters.{segments, filing_told, ticks_told, recategorises, wider, nexts}
 use Rattle.rules.proofs.Finds.{found_at, cond_two, on_some_two, on_arriving_two, on_some_both}
-use Rattle.rules.proofs.Follows.{Follows, vacated, later_only, arming_told, due_told}
-use Rattle.rules.proofs.Kept.{sound_step, sound_recategorised, held_named}
-use Rattle.rules.proofs.Sounds.{sound_vacate, sound_filtered, sound_received}
+use Rattle.rules.proofs.Follows.{Follows, vacated, later_only, resends, arming_told, due_told}
+use Rattle.rules.proofs.Kept.{sound_step, sound_recategorised, recategorised_slot, held_named, held_versioned, versioned_within}
+use Rattle.rules.proofs.Sounds.{sound_vacate, sound_filtered, sound_received, resent_slot, sound_resent}
 use Rattle.rules.specs.Assembly.{received, told_filing, on_landing, segment_of, segment_step}
 use Rattle.refusal.specs.declared.causes.Cause.TheVariants.{BodyMemoryMisfit, ReadingBelowClock}
 use Rattle.rules.specs.Calls.{Call, header, segment, group, time, find_name, next_place, body_of, card, card_byte, slot_size, Reply, answered, counted, refused}
 use Rattle.rules.specs.Clocks.{prepared, expired, walk, walked, on_setting, on_reading, setting_step, reading_step, time_step}
-use Rattle.rules.specs.Effects.{arming_effects, due_effects, on_setting_effects, on_reading_effects, setting_effects, reading_effects, time_effects, update_effects, by_kind_effects, on_header_effects, header_effects, landing_effects, segment_effects, on_group_effects, group_effects, walk_effects, effects, all_effects}
+use Rattle.rules.specs.Effects.{arming_effects, due_effects, on_setting_effects, on_reading_effects, setting_effects, reading_effects, time_effects, update_effects, by_kind_effects, on_header_effects, header_effects, landing_effects, segment_effects, on_group_effects, group_effects, walk_effects, effects, all_effects, amended_effects, image_effects}
 use Rattle.rules.specs.Groups.{on_group, group_step}
-use Rattle.rules.specs.Headers.{receiver_fault, slot_for, image_step, told_update, recategorised, update_step, by_kind, on_header, header_step}
+use Rattle.rules.specs.Headers.{receiver_fault, slot_for, image_step, told_update, recategorised, update_step, by_kind, on_header, header_step, resent, amended}
 use Rattle.rules.specs.Ledgers.{Ledger, Known, body_in, leave, happen, pass, start, arming, noted, kept, with_piece, said, on_said, known_from, grouped, on_answer, moved_to, entered, ledger}
 use Rattle.rules.specs.Runs.{replies, step}
 use Rattle.rules.specs.Soundness.{Sound}
 use Rattle.rules.specs.Triggers.{Verdict, nothing, effect, late, wait, verdict, Effect}
-use Rattle.rules.specs.Worlds.{World, slot_at, fits_memory, due}
+use Rattle.rules.specs.Worlds.{World, slot_at, fits_memory, with_state, due}
 use Rattle.rules.specs.declared.answers.Answer.{Answer}
 use Rattle.rules.specs.declared.answers.Answer.TheVariants.{Refused}
 use Rattle.slots.specs.Searches.{first_slot}
 use Rattle.slots.specs.Segments.{has, fits, offset, landing, grown, complete}
-use Rattle.slots.specs.Slides.{free, arriving, Object, with_progress, image_of, comes, named, versioned, comes_again, ends, passed, number_in}
+use Rattle.slots.specs.Slides.{free, arriving, held, Object, Slide, with_progress, image_of, resent_slide, sent_under, comes, named, versioned, comes_again, ends, passed, number_in}
 use Rattle.slots.specs.declared.progress.Landing.{Landing}
 use Rattle.slots.specs.declared.progress.Segment.{Segment}
 use Rattle.std.proofs.lemmas.Bool.{cond_both, eqb-false, leb-true, ltb-false, eq-eqb, or_parts}
@@ -69,46 +69,58 @@ quiet_noted (Err e) n l = still l
 quiet_noted (Ok x) n l = still l
 
 module _ (m : Meaning) (keeps : Keeps m) where
-  images : (w : World) (l : Ledger) (t : ℕ) (xs : List ℕ) (x : HeaderRecord) → Grew l [] (entered l (header t xs) (answered (image_step w t (image_of x)).0))
+  -- a held slide is amended
+  amends : (w : World) (l : Ledger) (t : ℕ) (xs : List ℕ) (k : ℕ) (x : HeaderRecord) (y : Slide) → Sound w.state → Follows m w l → slot_at w.state k ≡ held y → said xs ≡ Ok x → Grew l (amended_effects k x w) (entered l (header t xs) (answered (amended k x w).0))
   unfolding entered
-  images w l t xs x =
+  amends w l t xs k x y sound h i said-x =
+      let n : ℕ = number_in (slot_at w.state k) in
+      let e : n ≡ y.number = ap number_in i in
+      let v : Verdict = verdict w.state.clock x.trigger in
+      let w' : World = recategorised x.category n w in
+      let sound' : Sound w'.state = sound_recategorised x.category k w y i sound in
+      let g : Grew l (arming_effects v k w') (arming v y.number l) =
+      arming_told m keeps w' l sound' (recategorises m keeps x.category n w l sound h) v k y (recategorised_slot x.category n w k ∙ i) in
+      let g' : Grew l (arming_effects v k w') (arming (verdict l.clock x.trigger) n l) =
+      subst₂ (λ c j. Grew l (arming_effects v k w') (arming (verdict c x.trigger) j l)) (sym h.clock) (sym e) g in
+      subst (λ r. Grew l (arming_effects v k w') (on_said r l (λ u. on_answer (told_update v n) l (λ j. noted j (known_from u) l) (λ j. arming (verdict l.clock u.trigger) j l)))) (sym said-x)
+      (told_update_history v n l _ _ ∙ g')
+
+  images : (w : World) (l : Ledger) (t : ℕ) (xs : List ℕ) (x : HeaderRecord) → Sound w.state → Follows m w l → said xs ≡ Ok x → Grew l (image_effects w t x) (entered l (header t xs) (answered (image_step w t x).0))
+  unfolding entered
+  images w l t xs x sound h said-x =
       let P : Answer × World → Type 0 = λ o. Grew l [] (entered l (header t xs) (answered o.0)) in
+      let Q : Answer × World → List Effect → Type 0 = λ o es. Grew l es (entered l (header t xs) (answered o.0)) in
       let q = quiet (said xs) l in
-      on_some_both P (first_slot (versioned x.name (image_of x).version) w.state.slots) _ _
+      on_some_two Q (first_slot (versioned x.name (image_of x).version) w.state.slots) _ _ _ _
       (on_some_both P (first_slot (comes_again t (image_of x)) w.state.slots) _ _
       (cond_both (passed w.state.clock x.expire) _ _ P (λ e. q)
       (λ e. cond_both (eqb w.state.given 4294967295) _ _ P (λ d. q) (λ d. on_some_both P (slot_for w.state t) _ _ q (λ k z. quiet_noted (said xs) _ l))))
       (λ k z. q))
-      (λ k z. q)
+      (λ k z.
+      let (y, i) = held_versioned w.state x.name (image_of x).version k z in
+      let lt : k < 12 = versioned_within w.state x.name (image_of x).version k sound z in
+      cond_two Q (sent_under t (slot_at w.state k)) _ _ _ _ (λ e. q)
+      (λ e.
+      cond_two Q (passed w.state.clock x.expire) _ _ _ _ (λ d. q)
+      (λ d.
+      amends (with_state (resent k t w.state) w) l t xs k x (resent_slide t y) (sound_resent w.state k t y i lt sound) (resends m keeps w l sound h k t y i lt) (resent_slot w.state k t y i lt sound) said-x)))
 
   updates : (w : World) (l : Ledger) (t : ℕ) (xs : List ℕ) (x : HeaderRecord) → Sound w.state → Follows m w l → said xs ≡ Ok x → Grew l (update_effects w x) (entered l (header t xs) (answered (update_step w x).0))
   unfolding entered
   updates w l t xs x sound h said-x =
       on_some_two (λ (o : Answer × World) (es : List Effect). Grew l es (entered l (header t xs) (answered o.0))) (first_slot (named x.name) w.state.slots) _ _ _ _ (quiet (said xs) l)
-      (λ k z.
-      let (y, i) = held_named w.state x.name k z in
-      let n : ℕ = number_in (slot_at w.state k) in
-      let e : n ≡ y.number = ap number_in i in
-      let v : Verdict = verdict w.state.clock x.trigger in
-      let w' : World = recategorised x.category n w in
-      let sound' : Sound w'.state = subst (λ j. Sound (recategorised x.category j w).state) (sym e) (sound_recategorised x.category k w y i sound) in
-      let g : Grew l (arming_effects v k w') (arming v y.number l) =
-      arming_told m keeps w' l sound' (recategorises m keeps x.category n w l sound h) v k y (recategorised_slot m keeps x.category n w k ∙ i) in
-      let g' : Grew l (arming_effects v k w') (arming (verdict l.clock x.trigger) n l) =
-      subst₂ (λ c j. Grew l (arming_effects v k w') (arming (verdict c x.trigger) j l)) (sym h.clock) (sym e) g in
-      subst (λ r. Grew l (arming_effects v k w') (on_said r l (λ u. on_answer (told_update v n) l (λ j. noted j (known_from u) l) (λ j. arming (verdict l.clock u.trigger) j l)))) (sym said-x)
-      (told_update_history v n l _ _ ∙ g'))
+      (λ k z. let (y, i) = held_named w.state x.name k z in amends w l t xs k x y sound h i said-x)
 
-  headed : (w : World) (l : Ledger) (t : ℕ) (xs : List ℕ) → Sound w.state → Follows m w l → Grew l (header_effects w xs) (entered l (header t xs) (answered (header_step w t xs).0))
+  headed : (w : World) (l : Ledger) (t : ℕ) (xs : List ℕ) → Sound w.state → Follows m w l → Grew l (header_effects w t xs) (entered l (header t xs) (answered (header_step w t xs).0))
   unfolding header_step header_effects entered
   headed w l t xs sound h =
       cond_two (λ (o : Answer × World) (es : List Effect). Grew l es (entered l (header t xs) (answered o.0))) (fits_memory w) _ _ _ _ (λ fm. go (header_of xs w.state.room) refl) (λ fm. quiet (said xs) l)
     where
-      kinds : (x : HeaderRecord) → header_of xs w.state.room ≡ Ok x → (k : Kind) → Grew l (by_kind_effects k w x) (entered l (header t xs) (answered (by_kind k w t x).0))
-      kinds x e Image = images w l t xs x
+      kinds : (x : HeaderRecord) → header_of xs w.state.room ≡ Ok x → (k : Kind) → Grew l (by_kind_effects k w t x) (entered l (header t xs) (answered (by_kind k w t x).0))
+      kinds x e Image = images w l t xs x sound h (wider m keeps xs w.state.room (2 ^ 28) x (omega (arith, h.framed, keeps.frame_small)) e)
       kinds x e Update = updates w l t xs x sound h (wider m keeps xs w.state.room (2 ^ 28) x (omega (arith, h.framed, keeps.frame_small)) e)
 
-      go : (r : Result HeaderRecord Fault) → header_of xs w.state.room ≡ r → Grew l (on_header_effects r w) (entered l (header t xs) (answered (on_header r w t).0))
+      go : (r : Result HeaderRecord Fault) → header_of xs w.state.room ≡ r → Grew l (on_header_effects r w t) (entered l (header t xs) (answered (on_header r w t).0))
       go (Err e) i = quiet (said xs) l
       go (Ok x) i = kinds x i x.kind
 

@@ -18,7 +18,7 @@ use Rattle.rules.specs.Assembly.{put, received, on_landing, segment_of, segment_
 use Rattle.rules.specs.Calls.{Call, header, segment, group, time, find_name, next_place, body_of, card, card_byte, slot_size, Reply, answered, refused}
 use Rattle.rules.specs.Clocks.{tick, walk, on_setting, on_reading, setting_step, reading_step, time_step}
 use Rattle.rules.specs.Groups.{on_group, group_step}
-use Rattle.rules.specs.Headers.{slot_for, image_step, recategorised, told_update, update_step, by_kind, on_header, header_step}
+use Rattle.rules.specs.Headers.{slot_for, image_step, recategorised, told_update, update_step, by_kind, on_header, header_step, resent, amended}
 use Rattle.rules.specs.Laws.{CountOn, given_by, given_in_group, given_in, NumbersRise, on_taken}
 use Rattle.rules.specs.Runs.{opened, after, replies, step}
 use Rattle.rules.specs.Soundness.{Sound}
@@ -29,14 +29,14 @@ use Rattle.rules.specs.declared.answers.Answer.TheVariants.{Refused}
 use Rattle.slots.specs.Searches.{first_slot}
 use Rattle.slots.specs.Segments.{has, fits, offset, landing, grown, complete}
 use Rattle.slots.specs.Slides as slides
-use Rattle.slots.specs.Slides.{Slot, free, arriving, held, Object, Slide, slide_of, with_progress, image_of, comes, named, versioned, comes_again, passed, number_in}
+use Rattle.slots.specs.Slides.{Slot, free, arriving, held, Object, Slide, slide_of, with_progress, image_of, resent_slide, comes, named, versioned, comes_again, sent_under, passed, number_in}
 use Rattle.slots.specs.declared.progress.Landing.{Landing}
 use Rattle.slots.specs.declared.progress.Segment.{Segment}
 use Rattle.std.proofs.lemmas.List.{get_or-set_same}
 use Rattle.std.proofs.lemmas.Bool.{cond_both, both_ways, eqb-false, ltb-false}
 use Rattle.rules.proofs.Choices.{slot_for_some}
 use Rattle.rules.proofs.Finds.{found_at, on_some_both, on_arriving_both}
-use Rattle.rules.proofs.Sounds.{sound_vacate, sound_begun, sound_received, sound_filed, sound_categorised, sound_armed, sound_walk, sound_set, arriving_within}
+use Rattle.rules.proofs.Sounds.{sound_vacate, sound_begun, sound_received, sound_filed, sound_categorised, sound_armed, sound_walk, sound_set, arriving_within, resent_slot, sound_resent}
 
 -- a category says nothing of the clock
 pub recategorised_clock : (c : Option Category) (n : ℕ) (w : World) → (recategorised c n w).state.clock ≡ w.state.clock
@@ -67,14 +67,23 @@ later_than c (Some (times.At t)) m e = go (eqb t c) (ltb t c) refl refl e
 still : (w : World) (c : Call) (r : Reply) → Sound w.state → ((ns : List ℕ) → given_by c r ns ≡ ns) → Goes w c (r, w)
 still w c r h e = record { sound = h; rises = λ ns i. subst (CountOn w.state.given) (sym (e ns)) i }
 
--- a slot found by its name is held
-pub held_named : (s : State) (a : NameRecord) (k : ℕ) → first_slot (named a) s.slots ≡ Some k → (x : Slide) × (slot_at s k ≡ held x)
-held_named s a k e = go (slot_at s k) refl (found_at (named a) s.slots k e).1
+-- a slot found by a test that only slides pass is held
+held_found : (test : Slot → Bool) → test free ≡ false → ((o : Object) → test (arriving o) ≡ false) → (s : State) (k : ℕ) → first_slot test s.slots ≡ Some k → (x : Slide) × (slot_at s k ≡ held x)
+held_found test f a s k e = go (slot_at s k) refl (found_at test s.slots k e).1
   where
-    go : (z : Slot) → slot_at s k ≡ z → named a z ≡ true → (x : Slide) × (slot_at s k ≡ held x)
-    go free i t = absurd (both_ways false refl t)
-    go (arriving o) i t = absurd (both_ways false refl t)
+    go : (z : Slot) → slot_at s k ≡ z → test z ≡ true → (x : Slide) × (slot_at s k ≡ held x)
+    go free i t = absurd (both_ways (test free) f t)
+    go (arriving o) i t = absurd (both_ways (test (arriving o)) (a o) t)
     go (held x) i t = (x, i)
+
+pub held_named : (s : State) (a : NameRecord) (k : ℕ) → first_slot (named a) s.slots ≡ Some k → (x : Slide) × (slot_at s k ≡ held x)
+held_named s a k e = held_found (named a) refl (λ o. refl) s k e
+
+pub held_versioned : (s : State) (a : NameRecord) (v k : ℕ) → first_slot (versioned a v) s.slots ≡ Some k → (x : Slide) × (slot_at s k ≡ held x)
+held_versioned s a v k e = held_found (versioned a v) refl (λ o. refl) s k e
+
+pub versioned_within : (s : State) (a : NameRecord) (v k : ℕ) → Sound s → first_slot (versioned a v) s.slots ≡ Some k → k < 12
+versioned_within s a v k h e = omega (arith, h.twelve, (found_at (versioned a v) s.slots k e).0)
 
 armed_given : (v : Verdict) (k : ℕ) (w : World) → (armed v k w).state.given ≡ w.state.given
 armed_given nothing k w = refl
@@ -82,15 +91,41 @@ armed_given effect k w = refl
 armed_given late k w = refl
 armed_given (wait m) k w = refl
 
-pub sound_recategorised : (c : Option Category) (k : ℕ) (w : World) (x : Slide) → slot_at w.state k ≡ held x → Sound w.state → Sound (recategorised c x.number w).state
+pub sound_recategorised : (c : Option Category) (k : ℕ) (w : World) (x : Slide) → slot_at w.state k ≡ held x → Sound w.state → Sound (recategorised c (number_in (slot_at w.state k)) w).state
 sound_recategorised None k w x i h = h
-sound_recategorised (Some c) k w x i h = sound_categorised (slides.real_category c) k w x i h
+sound_recategorised (Some c) k w x i h =
+    subst (λ j. Sound (categorised (slides.real_category c) j w).state) (sym (ap number_in i)) (sound_categorised (slides.real_category c) k w x i h)
+
+quiet_update : (v : Verdict) (n : ℕ) (ns : List ℕ) → on_taken (answered (told_update v n)) ns ≡ ns
+quiet_update nothing n ns = refl
+quiet_update effect n ns = refl
+quiet_update late n ns = refl
+quiet_update (wait m) n ns = refl
+
+recategorised_given : (c : Option Category) (n : ℕ) (w : World) → (recategorised c n w).state.given ≡ w.state.given
+recategorised_given None n w = refl
+recategorised_given (Some c) n w = refl
+
+pub recategorised_slot : (c : Option Category) (n : ℕ) (w : World) (k : ℕ) → slot_at (recategorised c n w).state k ≡ slot_at w.state k
+recategorised_slot None n w k = refl
+recategorised_slot (Some c) n w k = refl
+
+-- a held slide is amended, in a world that gave as many numbers
+amends : (w u : World) (t : ℕ) (xs : List ℕ) (k : ℕ) (x : HeaderRecord) (y : Slide) → u.state.given ≡ w.state.given → slot_at u.state k ≡ held y → Sound u.state → Goes w (header t xs) (answered (amended k x u).0, (amended k x u).1)
+amends w u t xs k x y g i h =
+    let n : ℕ = number_in (slot_at u.state k) in
+    let v : Verdict = verdict u.state.clock x.trigger in
+    let u' : World = recategorised x.category n u in
+    record {
+      sound = sound_armed v k u' y (recategorised_slot x.category n u k ∙ i) (λ m q. subst (λ c. c < m) (sym (recategorised_clock x.category n u)) (later_than u.state.clock x.trigger m q)) (sound_recategorised x.category k u y i h);
+      rises = λ ns j. subst (CountOn w.state.given) (sym (quiet_update v n ns)) (subst (λ b. CountOn b ns) (armed_given v k u' ∙ (recategorised_given x.category n u ∙ g)) j);
+    }
 
 module _ (w : World) (h : Sound w.state) where
   abbrev s : State
   s = w.state
 
-  images : (t : ℕ) (xs : List ℕ) (x : HeaderRecord) → headers.Sound s.room x → x.kind ≡ Image → Goes w (header t xs) (answered (image_step w t (image_of x)).0, (image_step w t (image_of x)).1)
+  images : (t : ℕ) (xs : List ℕ) (x : HeaderRecord) → headers.Sound s.room x → x.kind ≡ Image → Goes w (header t xs) (answered (image_step w t x).0, (image_step w t x).1)
   images t xs x ok kind =
       let P : Answer × World → Type 0 = λ o. Goes w (header t xs) (answered o.0, o.1) in
       let body = subst (λ k. headers.Body k x.body_size s.room) kind ok.body in
@@ -108,37 +143,19 @@ module _ (w : World) (h : Sound w.state) where
         rises = λ ns i. (refl, i);
       }))))
       (λ k z. q _ (λ ns. refl)))
-      (λ k z. q _ (λ ns. refl))
-
-  quiet_update : (v : Verdict) (n : ℕ) (ns : List ℕ) → on_taken (answered (told_update v n)) ns ≡ ns
-  quiet_update nothing n ns = refl
-  quiet_update effect n ns = refl
-  quiet_update late n ns = refl
-  quiet_update (wait m) n ns = refl
-
-  recategorised_given : (c : Option Category) (n : ℕ) → (recategorised c n w).state.given ≡ s.given
-  recategorised_given None n = refl
-  recategorised_given (Some c) n = refl
-
-  recategorised_slot : (c : Option Category) (n k : ℕ) → slot_at (recategorised c n w).state k ≡ slot_at s k
-  recategorised_slot None n k = refl
-  recategorised_slot (Some c) n k = refl
+      (λ k z.
+      let (y, i) = held_versioned s x.name (image_of x).version k z in
+      let lt : k < 12 = versioned_within s x.name (image_of x).version k h z in
+      cond_both (sent_under t (slot_at s k)) _ _ P (λ e. q _ (λ ns. refl))
+      (λ e.
+      cond_both (passed s.clock x.expire) _ _ P (λ d. q _ (λ ns. refl))
+      (λ d. amends w (with_state (resent k t s) w) t xs k x (resent_slide t y) refl (resent_slot s k t y i lt h) (sound_resent s k t y i lt h))))
 
   updates : (t : ℕ) (xs : List ℕ) (x : HeaderRecord) → Goes w (header t xs) (answered (update_step w x).0, (update_step w x).1)
   updates t xs x =
       let P : Answer × World → Type 0 = λ o. Goes w (header t xs) (answered o.0, o.1) in
       on_some_both P (first_slot (named x.name) s.slots) _ _ (still w (header t xs) _ h (λ ns. refl))
-      (λ k z.
-      let (y, i) = held_named s x.name k z in
-      let n : ℕ = number_in (slot_at s k) in
-      let e : n ≡ y.number = ap number_in i in
-      let v : Verdict = verdict s.clock x.trigger in
-      let w' : World = recategorised x.category n w in
-      let sound' : Sound w'.state = subst (λ j. Sound (recategorised x.category j w).state) (sym e) (sound_recategorised x.category k w y i h) in
-      record {
-        sound = sound_armed v k w' y (recategorised_slot x.category n k ∙ i) (λ m q. subst (λ c. c < m) (sym (recategorised_clock x.category n w)) (later_than s.clock x.trigger m q)) sound';
-        rises = λ ns j. subst (CountOn s.given) (sym (quiet_update v n ns)) (subst (λ g. CountOn g ns) (armed_given v k w' ∙ recategorised_given x.category n) j);
-      })
+      (λ k z. let (y, i) = held_named s x.name k z in amends w w t xs k x y refl i h)
 
   headed : (t : ℕ) (xs : List ℕ) → Goes w (header t xs) (answered (header_step w t xs).0, (header_step w t xs).1)
   unfolding header_step

@@ -18,6 +18,7 @@ mod Outcomes
 mod Groupings
 pub mod Stand
 mod Computed
+mod Changed
 pub mod Shots
 pub mod Reaching
 pub mod Both

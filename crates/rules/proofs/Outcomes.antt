@@ -16,9 +16,9 @@ use Rattle.rules.proofs.Passes.{show_all_append}
 use Rattle.rules.specs.Assembly.{put, received, filed, on_landing, segment_of, segment_step}
 use Rattle.rules.specs.Calls.{header, segment, group, time, find_name, next_place, body_of, card, card_byte, slot_size, Reply, answered, counted, refused}
 use Rattle.rules.specs.Clocks.{tick, ticked, walk, walked, on_setting, on_reading, setting_step, reading_step, time_step}
-use Rattle.rules.specs.Effects.{arming_effects, tick_effects, walk_effects, on_setting_effects, on_reading_effects, setting_effects, reading_effects, time_effects, by_kind_effects, on_header_effects, header_effects, filed_effects, landing_effects, segment_effects, on_group_effects, group_effects, effects}
+use Rattle.rules.specs.Effects.{arming_effects, tick_effects, walk_effects, on_setting_effects, on_reading_effects, setting_effects, reading_effects, time_effects, by_kind_effects, on_header_effects, header_effects, filed_effects, landing_effects, segment_effects, on_group_effects, group_effects, effects, amended_effects}
 use Rattle.rules.specs.Groups.{on_group, group_step}
-use Rattle.rules.specs.Headers.{slot_for, recategorised, by_kind, on_header, header_step}
+use Rattle.rules.specs.Headers.{slot_for, recategorised, by_kind, on_header, header_step, resent, amended}
 use Rattle.rules.specs.Laws.{EffectsAreShown, CountsAreEffects}
 use Rattle.rules.specs.Questions.{body_of_number}
 use Rattle.rules.specs.Runs.{step, as_bytes}
@@ -27,7 +27,7 @@ use Rattle.rules.specs.Worlds.{World, slot_at, fits_memory, with_state, vacate, 
 use Rattle.rules.specs.declared.answers.Answer.{Answer}
 use Rattle.slots.specs.Searches.{first_slot}
 use Rattle.slots.specs.Segments.{landing, grown, complete}
-use Rattle.slots.specs.Slides.{Object, held, slide_of, with_progress, image_of, comes, comes_again, named, versioned, passed, number_in}
+use Rattle.slots.specs.Slides.{Object, held, slide_of, with_progress, image_of, comes, comes_again, named, versioned, sent_under, passed, number_in}
 use Rattle.slots.specs.declared.progress.Landing.{Landing}
 use Rattle.slots.specs.declared.progress.Landing.TheVariants as landings
 use Rattle.slots.specs.declared.progress.Segment.{Segment}
@@ -52,6 +52,13 @@ recategorised_display : (c : Option Category) (n : ℕ) (w : World) → (recateg
 recategorised_display None n w = refl
 recategorised_display (Some c) n w = refl
 
+amended_shown : (k : ℕ) (h : HeaderRecord) (w : World) → Told w (amended k h w) (amended_effects k h w)
+amended_shown k h w =
+    let v : Verdict = verdict w.state.clock h.trigger in
+    let n : ℕ = number_in (slot_at w.state k) in
+    let u : World = recategorised h.category n w in
+    arming_shown v k u ∙ ap (λ (d : Meaning). show_all d (arming_effects v k u)) (recategorised_display h.category n w)
+
 walk_shown : (n : ℕ) (w : World) → (walk n w).display ≡ show_all w.display (walk_effects n w)
 unfolding tick tick_effects
 walk_shown zero w = refl
@@ -67,29 +74,27 @@ walk_counted (suc n) w =
     ∙ sym (length-append (walk_effects n w) (tick_effects (walk n w)))
 
 module _ (w : World) where
-  by_kind_shown : (k : Kind) (t : ℕ) (h : HeaderRecord) → Told w (by_kind k w t h) (by_kind_effects k w h)
+  by_kind_shown : (k : Kind) (t : ℕ) (h : HeaderRecord) → Told w (by_kind k w t h) (by_kind_effects k w t h)
   by_kind_shown Image t h =
       let i = image_of h in
       let P : Answer × World → Type 0 = λ o. Told w o [] in
-      on_some_both P (first_slot (versioned i.name i.version) w.state.slots) _ _
+      let Q : Answer × World → List Effect → Type 0 = λ o es. Told w o es in
+      on_some_two Q (first_slot (versioned i.name i.version) w.state.slots) _ _ _ _
       (on_some_both P (first_slot (comes_again t i) w.state.slots) _ _
       (cond_both (passed w.state.clock i.expire) _ _ P (λ e. refl)
       (λ e. cond_both (eqb w.state.given 4294967295) _ _ P (λ d. refl) (λ d. on_some_both P (slot_for w.state t) _ _ refl (λ k z. refl))))
       (λ k z. refl))
-      (λ k z. refl)
-  by_kind_shown Update t h =
-      on_some_two (λ (o : Answer × World) (es : List Effect). Told w o es) (first_slot (named h.name) w.state.slots) _ _ _ _ refl
       (λ k z.
-      let v : Verdict = verdict w.state.clock h.trigger in
-      let n : ℕ = number_in (slot_at w.state k) in
-      let u : World = recategorised h.category n w in
-      arming_shown v k u ∙ ap (λ (d : Meaning). show_all d (arming_effects v k u)) (recategorised_display h.category n w))
+      cond_two Q (sent_under t (slot_at w.state k)) _ _ _ _ (λ e. refl)
+      (λ e. cond_two Q (passed w.state.clock i.expire) _ _ _ _ (λ d. refl) (λ d. amended_shown k h (with_state (resent k t w.state) w))))
+  by_kind_shown Update t h =
+      on_some_two (λ (o : Answer × World) (es : List Effect). Told w o es) (first_slot (named h.name) w.state.slots) _ _ _ _ refl (λ k z. amended_shown k h w)
 
-  on_header_shown : (r : Result HeaderRecord Fault) (t : ℕ) → Told w (on_header r w t) (on_header_effects r w)
+  on_header_shown : (r : Result HeaderRecord Fault) (t : ℕ) → Told w (on_header r w t) (on_header_effects r w t)
   on_header_shown (Err e) t = refl
   on_header_shown (Ok h) t = by_kind_shown h.kind t h
 
-  header_shown : (t : ℕ) (xs : List ℕ) → Told w (header_step w t xs) (header_effects w xs)
+  header_shown : (t : ℕ) (xs : List ℕ) → Told w (header_step w t xs) (header_effects w t xs)
   unfolding header_step header_effects
   header_shown t xs =
       cond_two (λ (o : Answer × World) (es : List Effect). Told w o es) (fits_memory w) _ _ _ _ (λ e. on_header_shown (header_of xs w.state.room) t) (λ e. refl)

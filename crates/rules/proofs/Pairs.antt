@@ -19,6 +19,10 @@ both_kept p q same tie none = none
 both_kept {R' = R'} p q same tie (more {x = x} {y = y} {xs = xs} {ys = ys} r h) =
     rw (← same x y r) (pick R' x y (p x) (tie x y r) (both_kept p q same tie h))
 
+pub both_tied : {X Y : Type 0} {R R' : X → Y → Type 0} {xs : List X} {ys : List Y} → ((x : X) (y : Y) → R x y → R' x y) → Both R xs ys → Both R' xs ys
+both_tied i none = none
+both_tied i (more {x = x} {y = y} r h) = more (i x y r) (both_tied i h)
+
 pub both_map : {X Y Z : Type 0} {R : X → Y → Type 0} {xs : List X} {ys : List Y} (f : X → Z) (g : Y → Z) → ((x : X) (y : Y) → R x y → f x ≡ g y) → Both R xs ys → map f xs ≡ map g ys
 both_map f g same none = refl
 both_map f g same (more {x = x} {y = y} r h) = ap₂ (λ a as'. a ∷ as') (same x y r) (both_map f g same h)

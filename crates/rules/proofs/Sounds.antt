@@ -5,7 +5,7 @@ use Rattle.header.specs.Names.{NameRecord, same_name}
 use Rattle.header.specs.declared.kinds.Category.{Category}
 use Rattle.rules.specs.Assembly.{put}
 use Rattle.rules.specs.Clocks.{prepared, expired, tick, walk}
-use Rattle.rules.specs.Headers.{is_held, begun}
+use Rattle.rules.specs.Headers.{is_held, with_transport, resent, begun}
 use Rattle.rules.specs.Soundness.{Sound, SlotSound, same_place, PlacesApart}
 use Rattle.rules.specs.Triggers.{Verdict, nothing, effect, late, wait}
 use Rattle.rules.specs.Worlds.{State, World, slot_at, any, holding, vacate, fire, armed, categorised}
@@ -18,13 +18,13 @@ use Rattle.shelf.specs.Laws.{Apart}
 use Rattle.shelf.specs.Places.{Ascending, above}
 use Rattle.shelf.specs.declared.entries.Entry.{Entry}
 use Rattle.slots.specs.Slides as slides
-use Rattle.slots.specs.Slides.{Slot, free, arriving, held, Object, Slide, arrival, slide_of, with_progress, named, numbered, number_in, ends, passed}
+use Rattle.slots.specs.Slides.{Slot, free, arriving, held, Object, Slide, arrival, slide_of, with_progress, resent_slide, moved, comes, named, numbered, number_in, ends, passed}
 use Rattle.slots.specs.declared.progress.Progress.{Progress}
 use Rattle.std.proofs.lemmas.List.{length-map, length-set, get_or-set_same, get_or-set_other}
 use Rattle.std.proofs.lemmas.Bool.{cond-false, cases_eq, both_ways, eqb-false, eq-eqb, leb-true, not-true, or_parts, ltb-false}
 use Rattle.std.specs.Cmp.{nat_cmp_total, then_total, on_total}
 use Rattle.std.specs.List.{AllByRecursion}
-use Rattle.rules.proofs.Filters.{all_kept, kept_pass, apart_kept, none_carries, places_apart_kept, places_apart_shelved, same_place_turned, any_freed, any_set, any_at}
+use Rattle.rules.proofs.Filters.{all_kept, kept_pass, apart_kept, none_carries, places_apart_kept, places_apart_shelved, same_place_turned, any_freed, any_set, any_same, any_at}
 use Rattle.rules.proofs.Moments.{all_mono}
 use Rattle.rules.proofs.Passes.{getD_vacate, Ready}
 use Rattle.rules.specs.Laws.{NeverFalls}
@@ -275,6 +275,52 @@ sound_filed k o s i h =
     (λ j y e n.
     let z = from_freed (named a (slot_at s j)) (slot_at s j) y (sym (getD_vacate (named a) s.slots j) ∙ e) in
     differs y.name a (sym (ap (named a) z.1) ∙ z.0) n)
+
+-- the slide in slot k has another TransportId
+sound_under : (s : State) (k t : ℕ) (x : Slide) → slot_at s k ≡ held x → k < 12 → Sound s → Sound (put k (held (resent_slide t x)) s)
+sound_under s k t x i lt h =
+    let z : Slot = held (resent_slide t x) in
+    let within : k < length s.slots = omega (arith, h.twelve) in
+    let ok : SlotSound s.clock s.given s.room (held x) = subst (SlotSound s.clock s.given s.room) i (h.slot_sound k) in
+    let n : number_in (slot_at s k) ≡ x.number = ap number_in i in
+    sound_placed s k z s.given s.recent s.waiting s.places h lt h.round (omega arith) ok
+    (λ j d e. d (sym (h.numbers_distinct k j (omega (arith, n, ok.0)) (n ∙ sym e))))
+    (λ j y a d e q m. d (h.names_distinct j k y x e i (m ∙ let p : resent_slide t x ≡ a = cc in sym (ap (λ (v : Slide). v.name) p))))
+    (record {
+      ascends = h.waiting_ascends;
+      ahead = h.waiting_ahead;
+      for_held = all_mono (λ e. is_held (slot_at s e.load) ≡ true) (λ e. is_held (get_or (set s.slots k z) e.load free) ≡ true)
+          (λ e u. elim (at_set s.slots k z within e.load) [ inl v ↦ ap is_held v.1 | inr v ↦ ap is_held v.1 ∙ u ]) s.waiting h.waiting_held;
+      one_each = h.one_trigger_each;
+    })
+    (record {
+      ascend = h.places_ascend;
+      apart = h.places_apart;
+      for_held = all_mono (λ e. any (numbered e.load) s.slots ≡ true) (λ e. any (numbered e.load) (set s.slots k z) ≡ true)
+          (λ e u. any_same (numbered e.load) s.slots k z (sym (ap (numbered e.load) i)) ∙ u) s.places h.places_held;
+      one_each = h.one_place_each;
+    })
+
+-- so it does where the slide takes a TransportId
+pub sound_transport : (s : State) (k t : ℕ) (x : Slide) → slot_at s k ≡ held x → k < 12 → Sound s → Sound (with_transport k t s)
+sound_transport s k t x i lt h =
+    subst Sound (ap (λ z. put k (moved (slides.resent t) z) s) (sym i)) (sound_under s k t x i lt h)
+
+-- the slide in slot k is sent again: what arrives under the TransportId is dropped, and it is still there
+module _ (s : State) (k t : ℕ) (x : Slide) (i : slot_at s k ≡ held x) (lt : k < 12) (h : Sound s) where
+  pub still_held : slot_at (vacate (comes t) s) k ≡ held x
+  still_held = getD_vacate (comes t) s.slots k ∙ ap (λ z. cond (comes t z) free z) i
+
+  pub resent_is : resent k t s ≡ put k (held (resent_slide t x)) (vacate (comes t) s)
+  resent_is = ap (λ z. put k (moved (slides.resent t) z) (vacate (comes t) s)) still_held
+
+  pub resent_slot : slot_at (resent k t s) k ≡ held (resent_slide t x)
+  resent_slot =
+      ap (λ u. slot_at u k) resent_is
+      ∙ get_or-set_same (vacate (comes t) s).slots k (held (resent_slide t x)) free (omega (arith, (sound_vacate (comes t) s h).twelve, lt))
+
+  pub sound_resent : Sound (resent k t s)
+  sound_resent = subst Sound (sym resent_is) (sound_under (vacate (comes t) s) k t x still_held lt (sound_vacate (comes t) s h))
 
 -- a slide in a category
 pub sound_categorised : (c : Option Category) (k : ℕ) (w : World) (x : Slide) → slot_at w.state k ≡ held x → Sound w.state → Sound (categorised c x.number w).state

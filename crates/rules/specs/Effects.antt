@@ -12,13 +12,13 @@ use Rattle.refusal.specs.declared.Fault.{Fault}
 use Rattle.rules.specs.Assembly.{put, received, on_arriving, segment_of}
 use Rattle.rules.specs.Calls.{Call, header, segment, group, time, find_name, next_place, body_of, card, card_byte, slot_size}
 use Rattle.rules.specs.Clocks.{expired, walk, prepared}
-use Rattle.rules.specs.Headers.{on_some, recategorised}
+use Rattle.rules.specs.Headers.{on_some, recategorised, resent}
 use Rattle.rules.specs.Runs.{step}
 use Rattle.rules.specs.Triggers.{Verdict, nothing, effect, late, wait, verdict, Effect}
 use Rattle.rules.specs.Worlds.{World, slot_at, fits_memory, with_state, vacate, categorised, effect_at, due}
 use Rattle.slots.specs.Searches.{first_slot}
 use Rattle.slots.specs.Segments.{landing, grown, complete}
-use Rattle.slots.specs.Slides.{Object, held, slide_of, with_progress, comes, named, number_in}
+use Rattle.slots.specs.Slides.{Object, held, slide_of, with_progress, image_of, comes, named, versioned, sent_under, passed, number_in}
 use Rattle.slots.specs.declared.progress.Landing.{Landing}
 use Rattle.slots.specs.declared.progress.Landing.TheVariants as landings
 use Rattle.slots.specs.declared.progress.Segment.{Segment}
@@ -65,21 +65,32 @@ reading_effects w xs = cond (fits_memory w) (on_reading_effects (time_of xs) w) 
 abbrev pub time_effects : World → List ℕ → List Effect
 time_effects w xs = cond (w.state.clock == 0) (setting_effects w xs) (reading_effects w xs)
 
--- a header: an image has none, an update what its trigger comes to
+-- a header: an update and a changed header have what their trigger comes to, another image has none
+abbrev pub amended_effects : ℕ → HeaderRecord → World → List Effect
+amended_effects k h w =
+    arming_effects (verdict w.state.clock h.trigger) k (recategorised h.category (number_in (slot_at w.state k)) w)
+
 abbrev pub update_effects : World → HeaderRecord → List Effect
-update_effects w h =
-    on_some (first_slot (named h.name) w.state.slots) [] (λ k. arming_effects (verdict w.state.clock h.trigger) k (recategorised h.category (number_in (slot_at w.state k)) w))
+update_effects w h = on_some (first_slot (named h.name) w.state.slots) [] (λ k. amended_effects k h w)
 
-abbrev pub by_kind_effects : Kind → World → HeaderRecord → List Effect
-by_kind_effects Image w h = []
-by_kind_effects Update w h = update_effects w h
+abbrev pub changed_effects : World → ℕ → HeaderRecord → ℕ → List Effect
+changed_effects w transport h k =
+    cond (passed w.state.clock h.expire) [] (amended_effects k h (with_state (resent k transport w.state) w))
 
-abbrev pub on_header_effects : Result HeaderRecord Fault → World → List Effect
-on_header_effects (Err e) w = []
-on_header_effects (Ok h) w = by_kind_effects h.kind w h
+abbrev pub image_effects : World → ℕ → HeaderRecord → List Effect
+image_effects w transport h =
+    on_some (first_slot (versioned h.name (image_of h).version) w.state.slots) [] (λ k. cond (sent_under transport (slot_at w.state k)) [] (changed_effects w transport h k))
 
-unfoldable pub header_effects : World → List ℕ → List Effect
-header_effects w xs = cond (fits_memory w) (on_header_effects (header_of xs w.state.room) w) []
+abbrev pub by_kind_effects : Kind → World → ℕ → HeaderRecord → List Effect
+by_kind_effects Image w transport h = image_effects w transport h
+by_kind_effects Update w transport h = update_effects w h
+
+abbrev pub on_header_effects : Result HeaderRecord Fault → World → ℕ → List Effect
+on_header_effects (Err e) w transport = []
+on_header_effects (Ok h) w transport = by_kind_effects h.kind w transport h
+
+unfoldable pub header_effects : World → ℕ → List ℕ → List Effect
+header_effects w transport xs = cond (fits_memory w) (on_header_effects (header_of xs w.state.room) w transport) []
 
 -- a segment: with the last one missing, what the slide's trigger comes to
 abbrev pub filed_effects : ℕ → Object → World → List Effect
@@ -99,7 +110,7 @@ segment_effects w transport n last xs =
 -- a data group: those of the call that it asks
 abbrev pub on_group_effects : Result Group Fault → World → List Effect
 on_group_effects (Err e) w = []
-on_group_effects (Ok (groups.header t xs)) w = header_effects w xs
+on_group_effects (Ok (groups.header t xs)) w = header_effects w t xs
 on_group_effects (Ok (groups.segment t n last xs)) w = segment_effects w t n last xs
 on_group_effects (Ok groups.other) w = []
 
@@ -108,7 +119,7 @@ group_effects w xs = cond (fits_memory w) (on_group_effects (group_of xs) w) []
 
 -- a call, and a list of calls
 unfoldable pub effects : World → Call → List Effect
-effects w (header t xs) = header_effects w xs
+effects w (header t xs) = header_effects w t xs
 effects w (segment t n last xs) = segment_effects w t n last xs
 effects w (group xs) = group_effects w xs
 effects w (time xs) = time_effects w xs

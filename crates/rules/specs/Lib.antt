@@ -12,5 +12,6 @@ pub mod Runs
 pub mod Ledgers
 pub mod Laws
 pub mod Samples
+pub mod Changed
 pub mod Reached
 pub mod Effects

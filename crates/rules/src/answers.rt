@@ -15,7 +15,7 @@ pub enum Answer {
     Shown(u32),
     // a trigger lies below the clock and never takes effect
     Late(u32),
-    // an update changed a slide, and its trigger waits or it has none
+    // an update or a changed header changed a slide, and its trigger waits or it has none
     Changed(u32),
     // nothing changed
     Refused(Fault),

@@ -8,7 +8,7 @@ use Rattle.slots.specs.Slides.{Object, Slide, free, arriving, held}
 use Rattle.slots.specs.declared.indices.SlotIndex.{SlotIndex}
 use Rattle.slots.specs.declared.records.Arrival.{Arrival}
 use Rattle.slots.specs.declared.records.Event.{Event}
-use Rattle.slots.specs.declared.records.Event.TheVariants.{Header, Segment, Expiry, Clearing}
+use Rattle.slots.specs.declared.records.Event.TheVariants.{Header, Segment, Expiry, Resent, Clearing}
 use Rattle.slots.specs.declared.records.Holding.{Holding}
 use Rattle.slots.specs.declared.records.Slot.{Slot}
 use Rattle.slots.specs.declared.records.Slots.{Slots}
@@ -20,7 +20,7 @@ object_of a n =
     record { transport = a.transport; number = a.number; image = record { size = a.progress.size; subtype = a.subtype; name = n; version = a.version; expire = a.expire; trigger = a.trigger; category = a.category }; progress = a.progress }
 
 abbrev pub slide_in : Holding → NameRecord → Slide
-slide_in h n = record { number = h.number; name = n; version = h.version; expire = h.expire; size = h.size }
+slide_in h n = record { transport = h.transport; number = h.number; name = n; version = h.version; expire = h.expire; size = h.size }
 
 abbrev pub state_of : State → NameRecord → slides.Slot
 state_of Free n = free
@@ -35,6 +35,7 @@ abbrev pub event_of : Event → NameRecord → slides.Event
 event_of (Header a) n = slides.header (object_of a n)
 event_of (Segment s) n = slides.segment s
 event_of (Expiry t) n = slides.expiry t
+event_of (Resent t) n = slides.resent t
 event_of Clearing n = slides.clearing
 
 abbrev pub all_seen : Slots → List slides.Slot

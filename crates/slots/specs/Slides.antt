@@ -59,8 +59,9 @@ pub record Object : Type 0 where
   pub image : Image
   pub progress : Progress
 
--- a slide that is held
+-- a slide that is held, with the TransportId of its header, or of the last changed one
 pub record Slide : Type 0 where
+  pub transport : ℕ
   pub number : ℕ
   pub name : NameRecord
   pub version : ℕ
@@ -82,7 +83,7 @@ arrival transport number i = record { transport = transport; number = number; im
 -- the slide that an object becomes
 abbrev pub slide_of : Object → Slide
 slide_of o =
-    record { number = o.number; name = o.image.name; version = o.image.version; expire = o.image.expire; size = o.image.size }
+    record { transport = o.transport; number = o.number; name = o.image.name; version = o.image.version; expire = o.image.expire; size = o.image.size }
 
 -- an expire time at or before t; Now is before all
 abbrev pub passed : ℕ → Option Time → Bool
@@ -126,6 +127,12 @@ versioned n v free = false
 versioned n v (arriving o) = false
 versioned n v (held x) = same_name x.name n && x.version == v
 
+-- the slide that it holds was last sent under this TransportId
+abbrev pub sent_under : ℕ → Slot → Bool
+sent_under transport free = false
+sent_under transport (arriving o) = false
+sent_under transport (held x) = x.transport == transport
+
 -- it holds the slide with this accession number
 abbrev pub numbered : ℕ → Slot → Bool
 numbered n free = false
@@ -143,16 +150,23 @@ size_in free = 0
 size_in (arriving o) = 0
 size_in (held x) = x.size
 
--- what moves a slot: a header that takes it, a segment that its object takes, a moment that comes, its clearing
+-- what moves a slot: a header that takes it, a segment that its object takes, a moment that comes, a header by which its slide is
+-- sent again under a TransportId, its clearing
 pub data Event : Type 0 where
   header : Object → Event
   segment : Segment → Event
   expiry : ℕ → Event
+  resent : ℕ → Event
   clearing : Event
 
 -- the object with a segment, or the slide once all is there
 abbrev pub with_progress : Object → Progress → Object
 with_progress o p = record { transport = o.transport; number = o.number; image = o.image; progress = p }
+
+-- the slide under another TransportId
+abbrev pub resent_slide : ℕ → Slide → Slide
+resent_slide transport x =
+    record { transport = transport; number = x.number; name = x.name; version = x.version; expire = x.expire; size = x.size }
 
 abbrev pub filed_if : Bool → Object → Slot
 filed_if true o = held (slide_of o)
@@ -168,4 +182,7 @@ moved (segment s) (held x) = held x
 moved (expiry t) free = free
 moved (expiry t) (arriving o) = cond (passed t o.image.expire) free (arriving o)
 moved (expiry t) (held x) = cond (passed t x.expire) free (held x)
+moved (resent t) free = free
+moved (resent t) (arriving o) = arriving o
+moved (resent t) (held x) = held (resent_slide t x)
 moved clearing x = free

@@ -41,6 +41,7 @@ impl From<Arrival> for Holding {
 
     fn from(arrival: Arrival) -> Holding {
         Holding {
+            transport: arrival.transport,
             number: arrival.number,
             version: arrival.version,
             expire: arrival.expire,
@@ -73,6 +74,10 @@ impl Slot {
             (_, Event::Header(arrival)) => State::Arriving(arrival),
             (State::Arriving(arrival), Event::Segment(segment)) => arrival.with(segment),
             (state, Event::Expiry(moment)) if state.ends_by(moment) => State::Free,
+            (State::Held(holding), Event::Resent(transport)) => State::Held(Holding {
+                transport,
+                ..holding
+            }),
             (_, Event::Clearing) => State::Free,
             (state, _) => state,
         };

@@ -19,9 +19,11 @@ pub struct Arrival {
     pub progress: Progress,
 }
 
-// A slide that is held: its accession number, its version, when it expires and how long its body is.
+// A slide that is held: the TransportId of its header, or of the last changed one, its accession number, its version, when it
+// expires and how long its body is.
 #[derive(Clone, Copy)]
 pub struct Holding {
+    pub transport: u16,
     pub number: u32,
     pub version: u8,
     pub expire: Option<Time>,
@@ -45,6 +47,8 @@ pub enum Event {
     Segment(Segment),
     // a moment comes
     Expiry(u64),
+    // the slide is sent again under this TransportId
+    Resent(u16),
     // the slot is cleared
     Clearing,
 }

@@ -3,7 +3,7 @@ ghost use Rattle.std.specs.Prelude.{◌≡◌, Bool};
 ghost use Rattle.header.specs.Finds.{name_of_label};
 ghost use Rattle.slots.specs.Seen.{seen};
 ghost use Rattle.slots.specs.Slides as slides;
-ghost use Rattle.slots.specs.Slides.{is_free, ends, comes, named, versioned, numbered};
+ghost use Rattle.slots.specs.Slides.{is_free, ends, comes, named, versioned, sent_under, numbered};
 
 use crate::records::{Slot, State};
 use header::kinds::Label;
@@ -90,5 +90,17 @@ impl<'a> SlotTest for Versioned<'a> {
     fn passes(&self, slot: &Slot) -> bool {
         matches!(slot.state, State::Held(holding)
             if slot.name.is(self.name) && holding.version == self.version)
+    }
+}
+
+// The slide that it holds was last sent under this TransportId.
+#[derive(Clone, Copy)]
+pub struct SentUnder(pub u16);
+
+impl SlotTest for SentUnder {
+    ghost test = { λ t x. sent_under t.0 x };
+
+    fn passes(&self, slot: &Slot) -> bool {
+        matches!(slot.state, State::Held(holding) if holding.transport == self.0)
     }
 }

@@ -14,9 +14,9 @@ returns-in_err-admit-clause-steps c =
 
 pub returns-in_err-admit-clause-tells : goal.returns-in_err-admit-clause-tells
 returns-in_err-admit-clause-tells c =
-    λ m.
+    λ m t.
     let p = err_from_is_err_and c.from_residual.result c.from_residual.ensures.1 in
-    rw (p.1) (header_misfit_tells (world_of c.args.self.now c.args.memory.now m) c.args.bytes.now (ne_eqb (length c.args.memory.now) (12 * c.args.self.now.room) c.in_err-admit.ensures.0))
+    rw (p.1) (header_misfit_tells (world_of c.args.self.now c.args.memory.now m) t c.args.bytes.now (ne_eqb (length c.args.memory.now) (12 * c.args.self.now.room) c.in_err-admit.ensures.0))
 
 pub returns-clause-steps : goal.returns-clause-steps
 returns-clause-steps c =
@@ -25,5 +25,5 @@ returns-clause-steps c =
 
 pub returns-clause-tells : goal.returns-clause-tells
 returns-clause-tells c =
-    λ m.
-    header_says_tells (world_of c.args.self.now c.args.memory.now m) c.args.bytes.now (seen c.read_header.result) (eq-eqb (length c.args.memory.now) (12 * c.args.self.now.room) c.in_ok-admit.ensures) c.read_header.ensures.value
+    λ m t.
+    header_says_tells (world_of c.args.self.now c.args.memory.now m) t c.args.bytes.now (seen c.read_header.result) (eq-eqb (length c.args.memory.now) (12 * c.args.self.now.room) c.in_ok-admit.ensures) c.read_header.ensures.value
