@@ -3,8 +3,8 @@ ghost use Rattle.std.specs.Prelude.{◌≡◌, ℕ, ◌*◌, ◌<◌, List};
 ghost use Rattle.std.specs.Option.{SomeIff};
 ghost use Rattle.header.specs.Params.{marked_length, extent_of, extent_by_rule};
 
-// The bytes of data that a mark stands for: 0, 1 or 4. None for mark 3, behind which the length is given in bytes of its
-// own, and for numbers above 3, which are no marks.
+// The bytes of data that a mark stands for: 0, 1 or 4. None for mark 3, behind which the length
+// is given in bytes of its own, and for numbers above 3, which are no marks.
 #[tactic(auto, using(crate::proofs::Lengths::by_rule))]
 pub fn marked_length(mark: u8) -> Option<usize>
     ensures listed { result ≡ marked_length mark }
