@@ -3,10 +3,11 @@ use Rattle.std.proofs.Common.{◌≡◌, ℕ, ◌+◌, ◌*◌, ◌/◌, ◌%◌
 use Rattle.packed.specs.Bits.{field, whole}
 use Rattle.std.proofs.ByRecursion.{All-take, All-drop}
 use Rattle.std.proofs.lemmas.List.{take_at, drop_at, drop-drop, take-append-drop, length-take-le}
-use Rattle.std.proofs.lemmas.Bool.{ltb-true, ltb-false, leb-true, eqb-true, eqb-false, lt-ltb, le-ltb, le-leb, eq-eqb, ne_eqb, cond-true, cond-false}
+use Rattle.std.proofs.lemmas.Bool.{ltb-true, ltb-false, leb-true, eqb-true, eqb-false, lt-ltb, le-leb, eq-eqb, ne_eqb, cond-true, cond-false}
 use Rattle.std.specs.List.{AllByRecursion}
-use Rattle.header.specs.Params.{mark_in, id_in, long_extent, extent_of, Part, first_within, first_of}
+use Rattle.header.specs.Params.{mark_in, id_in, long_extent, marked_length, extent_with, extent_of, Part, first_within, first_of}
 use Rattle.header.proofs.Chains.{none_not, passed}
+use Rattle.header.proofs.Lengths.{squared, by_rule}
 use Rattle.header.specs.Written.{Form, marked, short, long, written_as, GivesLength}
 
 -- a part that begins behind its head and what gives its length
@@ -49,12 +50,12 @@ id_is m id k = omega arith
 
 marked_extent : (m id : ℕ) (xs : List ℕ) → m < 3 → id < 64 → extent_of ((m * 64 + id) ∷ xs) ≡ Some (1, m * m)
 marked_extent m id xs h k =
-    let e : mark_in (m * 64 + id) ≡ m = mark_is m id (omega arith) k in
-    cond-true (ltb (mark_in (m * 64 + id)) 3) _ _ (lt-ltb (mark_in (m * 64 + id)) 3 (omega arith)) ∙ ap (λ (n : ℕ). Some (1, n * n)) e
+    ap (λ (n : ℕ). extent_with (marked_length n) xs) (mark_is m id (omega arith) k)
+    ∙ ap (λ (o : Option ℕ). extent_with o xs) (squared m ∙ cond-true (ltb m 3) _ _ (lt-ltb m 3 h))
 
 unmarked_extent : (id : ℕ) (xs : List ℕ) → id < 64 → extent_of ((3 * 64 + id) ∷ xs) ≡ long_extent xs
 unmarked_extent id xs k =
-    cond-false (ltb (mark_in (3 * 64 + id)) 3) _ _ (le-ltb (mark_in (3 * 64 + id)) 3 (omega arith))
+    ap (λ (n : ℕ). extent_with (marked_length n) xs) (mark_is 3 id (omega arith) k)
 
 -- a parameter whose data lie behind its head and front
 lies : (head id start : ℕ) (front xs ys : List ℕ) → id_in head ≡ id → length (head ∷ front) ≡ start → extent_of ((head ∷ front) ++ (xs ++ ys)) ≡ Some (start, length xs) → first_of ((head ∷ front) ++ (xs ++ ys)) ≡ Some (record { id = id; holds = xs; rest = ys })
@@ -136,7 +137,8 @@ stands_behind h (a ∷ d ∷ t) q b bs m e = go (eqb (field 8 0 1 a) 0) refl e
 -- what is read was written in some form
 pub stands : (xs : List ℕ) (q : Part) → AllByRecursion (λ b. b < 256) xs → first_of xs ≡ Some q → Stands xs q
 stands [] q bs e = absurd (none_not q e)
-stands (h ∷ t) q bs e = go (ltb (mark_in h) 3) refl e
+stands (h ∷ t) q bs e =
+    go (ltb (mark_in h) 3) refl (ap (first_within (h ∷ t)) (sym (by_rule (h ∷ t))) ∙ e)
   where
     go : (f : Bool) → ltb (mark_in h) 3 ≡ f → first_within (h ∷ t) (cond f (Some (1, mark_in h * mark_in h)) (long_extent t)) ≡ Some q → Stands (h ∷ t) q
     go true m c = stands_marked h t q bs.0 (ltb-true (mark_in h) 3 m) (cut_from (h ∷ t) 1 (mark_in h * mark_in h) q c)

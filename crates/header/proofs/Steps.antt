@@ -1,8 +1,8 @@
 -- The steps of a run over parameters: each takes at least one byte, so their length is fuel enough.
-use Rattle.std.proofs.Common.{◌≡◌, ℕ, zero, suc, ◌+◌, ◌-◌, ◌<◌, ◌≤◌, Bool, true, false, cond, eqb, ltb, leb, List, [], ◌∷◌, length, Some, None, Ok, Option, sym, refl, ap, ◌∙◌, arith, length-drop}
+use Rattle.std.proofs.Common.{◌≡◌, ℕ, zero, suc, ◌+◌, ◌-◌, ◌<◌, ◌≤◌, Bool, true, false, cond, eqb, leb, List, [], ◌∷◌, length, Some, None, Ok, Option, sym, refl, ap, ◌∙◌, arith, length-drop}
 use Rattle.packed.specs.Bits.{field}
 use Rattle.std.proofs.lemmas.Bool.{leb-true}
-use Rattle.header.specs.Params.{mark_in, long_extent, extent_of, Part, first_within, first_of}
+use Rattle.header.specs.Params.{mark_in, long_extent, marked_length, extent_with, extent_of, Part, first_within, first_of}
 use Rattle.header.specs.Finds.{FoundRecord, taken}
 use Rattle.header.specs.Headers.{part_at, params_from}
 use Rattle.header.specs.declared.kinds.Kind.{Kind}
@@ -22,10 +22,14 @@ long_ahead [] = tt
 long_ahead (a ∷ []) = chosen (eqb (field 8 0 1 a) 0) _ _ (omega arith) tt
 long_ahead (a ∷ b ∷ xs) = chosen (eqb (field 8 0 1 a) 0) _ _ (omega arith) (omega arith)
 
+ahead_with : (o : Option ℕ) (xs : List ℕ) → Ahead (extent_with o xs)
+ahead_with (Some n) xs = omega arith
+ahead_with None xs = long_ahead xs
+
 -- the data never begin at the first byte
 ahead : (xs : List ℕ) → Ahead (extent_of xs)
 ahead [] = tt
-ahead (h ∷ xs) = chosen (ltb (mark_in h) 3) _ _ (omega arith) (long_ahead xs)
+ahead (h ∷ xs) = ahead_with (marked_length (mark_in h)) xs
 
 shorter_within : (xs : List ℕ) (o : Option (ℕ × ℕ)) (p : Part) → Ahead o → first_within xs o ≡ Some p → length p.rest < length xs
 shorter_within xs None p a e = absurd (none_not p e)

@@ -1,5 +1,5 @@
 -- Parameters: a length mark of 2 bits and an id of 6, then the length where the mark does not say it, then the data.
-use Rattle.std.specs.Prelude.{ℕ, ◌+◌, ◌*◌, cond, List, [], ◌∷◌, length, take, drop, Some, None, Option, ◌==◌, nat_le, nat_lt, slice_index}
+use Rattle.std.specs.Prelude.{ℕ, zero, suc, ◌+◌, ◌*◌, cond, List, [], ◌∷◌, length, take, drop, Some, None, Option, ◌==◌, nat_le, nat_lt, slice_index}
 use Rattle.packed.specs.Bits.{field, whole}
 use Rattle.std.specs.Option.{option_map}
 use Rattle.header.specs.declared.parts.Parameter.{Parameter}
@@ -18,10 +18,28 @@ long_extent (a ∷ []) = cond (field 8 0 1 a == 0) (Some (2, field 8 1 7 a)) Non
 long_extent (a ∷ b ∷ xs) =
     cond (field 8 0 1 a == 0) (Some (2, field 8 1 7 a)) (Some (3, field 16 1 15 (whole (a ∷ b ∷ []))))
 
--- for marks 0, 1 and 2 the length is the mark times itself
+-- the data lengths that marks stand for, mark by mark; behind mark 3 the length has its own bytes
+abbrev pub marked_length : ℕ → Option ℕ
+marked_length zero = Some 0
+marked_length (suc zero) = Some 1
+marked_length (suc (suc zero)) = Some 4
+marked_length (suc (suc (suc n))) = None
+
+-- data of a length that the mark gives begin right behind the head
+abbrev pub extent_with : Option ℕ → List ℕ → Option (ℕ × ℕ)
+extent_with (Some n) xs = Some (1, n)
+extent_with None xs = long_extent xs
+
+-- where the data of the first parameter begins, and its length
 abbrev pub extent_of : List ℕ → Option (ℕ × ℕ)
 extent_of [] = None
-extent_of (head ∷ xs) = cond (nat_lt (mark_in head) 3) (Some (1, mark_in head * mark_in head)) (long_extent xs)
+extent_of (head ∷ xs) = extent_with (marked_length (mark_in head)) xs
+
+-- the same by one rule: for marks 0, 1 and 2 the length is the mark times itself
+abbrev pub extent_by_rule : List ℕ → Option (ℕ × ℕ)
+extent_by_rule [] = None
+extent_by_rule (head ∷ xs) =
+    cond (nat_lt (mark_in head) 3) (Some (1, mark_in head * mark_in head)) (long_extent xs)
 
 -- a parameter read: its id, its data, and the bytes behind it
 pub record Part : Type 0 where

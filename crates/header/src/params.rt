@@ -2,6 +2,7 @@
 ghost use Rattle.std.specs.Prelude.{◌≡◌, ◌<◌};
 ghost use Rattle.header.specs.Params.{long_extent, extent_of, first_of, seen_first};
 
+use crate::marks::marked_length;
 use crate::parts::Parameter;
 
 // Behind mark 3: a flag bit, then the length in 7 or in 15 bits.
@@ -20,11 +21,10 @@ fn extent(bytes: &[u8]) -> Option<(usize, usize)>
     ensures { result ≡ extent_of bytes.now }
 {
     let (head, behind) = bytes.split_first()?;
-    let mark = usize::from(*head / 64);
-    if mark < 3 {
-        return Some((1, mark * mark));
+    match marked_length(*head / 64) {
+        Some(size) => Some((1, size)),
+        None => long_extent(behind),
     }
-    long_extent(behind)
 }
 
 // The first parameter, or none where it runs past the end.
