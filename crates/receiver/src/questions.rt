@@ -62,11 +62,7 @@ impl<D: Display, P> Receiver<D, P> {
         ensures { bytes_of result ≡ body_of_number (world D.Display.meaning self.now memory.now) accession }
     {
         self.parts.admit(memory)?;
-        let k = self
-            .parts
-            .slots
-            .find(&Numbered(accession))
-            .ok_or(NOT_HELD)?;
+        let k = self.parts.slots.find(&Numbered(accession)).ok_or(NOT_HELD)?;
         Ok(self.parts.body_in(k, memory))
     }
 
