@@ -1,6 +1,6 @@
 -- The order of a shelf's list, and what keeps it.
-use Rattle.std.proofs.Common.{◌≡◌, Bool, true, false, cond, List, [], ◌∷◌, ◌++◌, Some, None, Option, Ordering, Less, Equal, Greater, sym, refl, ap, ◌∙◌, ⊎_elim, arith}
-use Rattle.std.proofs.ByRecursion.{All-weaker}
+use Rattle.std.proofs.Common.{◌≡◌, ℕ, zero, suc, Bool, true, false, cond, List, [], ◌∷◌, ◌++◌, take, drop, Some, None, Option, Ordering, Less, Equal, Greater, sym, refl, ap, ◌∙◌, ⊎_elim, arith}
+use Rattle.std.proofs.ByRecursion.{All-take, All-weaker}
 use Rattle.std.proofs.lemmas.List.{append-nil}
 use Rattle.std.proofs.lemmas.Bool.{cond_both, cond-true, cond-false, cases_Bool, true≢false, both_ways}
 use Rattle.std.specs.List.{insert, AllByRecursion}
@@ -39,6 +39,21 @@ module _ {K : Type 0} (cmp : K → K → Ordering) where
       cond_both (test x) xs (x ∷ without_that test xs) (Ascending cmp)
       (λ _. up.1)
       (λ _. (all_without test (λ y. above cmp y.key x ≡ false) xs up.0, ascending_without test xs up.1))
+
+  -- and so does the order of a part
+  pub ascending_take :
+      (n : ℕ) (xs : List (Entry K)) → Ascending cmp xs → Ascending cmp (take n xs)
+  ascending_take zero xs up = tt
+  ascending_take (suc n) [] up = tt
+  ascending_take (suc n) (x ∷ xs) up =
+      (All-take (λ y. above cmp y.key x ≡ false) n xs up.0, ascending_take n xs up.1)
+
+  -- also of the rest
+  pub ascending_drop :
+      (n : ℕ) (xs : List (Entry K)) → Ascending cmp xs → Ascending cmp (drop n xs)
+  ascending_drop zero xs up = up
+  ascending_drop (suc n) [] up = tt
+  ascending_drop (suc n) (x ∷ xs) up = ascending_drop n xs up.1
 
 -- ---- a total order
 
