@@ -1,5 +1,5 @@
 -- The ledger follows the receiver: what it means, and the primitives.
-use Rattle.std.proofs.Common.{◌≡◌, ℕ, ◌+◌, ◌*◌, ◌<◌, ◌≤◌, Bool, true, false, cond, not, eqb, ltb, leb, ◌⊎◌, List, [], ◌∷◌, ◌++◌, map, length, get_or, set, Some, None, filter, Option, sym, refl, ap, ◌∙◌, subst, ap₂, inl, inr, arith}
+use Rattle.std.proofs.Common.{◌≡◌, ℕ, zero, suc, ◌+◌, ◌*◌, ◌<◌, ◌≤◌, Bool, true, false, cond, not, eqb, ltb, leb, ◌⊎◌, List, [], ◌∷◌, ◌++◌, map, length, get_or, set, Some, None, filter, Option, sym, refl, ap, ◌∙◌, subst, ap₂, inl, inr, arith}
 use Rattle.display.proofs.Shown.{accepts_true}
 use Rattle.display.specs.Meaning.{Meaning, Card, Keeps, accepts}
 use Rattle.header.specs.Sound.{InTime}
@@ -78,6 +78,12 @@ pub record Follows (m : Meaning) (w : World) (l : Ledger) : Type 0 where
 pub latest_append : (settle : ℕ → ℕ) (c : Option Card) (xs ys : List Effect) → latest settle c (xs ++ ys) ≡ latest settle (latest settle c xs) ys
 latest_append settle c [] ys = refl
 latest_append settle c (x ∷ xs) ys = latest_append settle (Some (card_of settle x)) xs ys
+
+-- a slot that holds a slide is one of the list
+pub inside : (xs : List Slot) (k : ℕ) (x : Slide) → get_or xs k free ≡ held x → k < length xs
+inside [] k x h = let z : ◌≡◌ {A = ℕ} 0 1 = cc in absurd (omega arith)
+inside (y ∷ xs) zero x h = omega arith
+inside (y ∷ xs) (suc k) x h = let z : k < length xs = inside xs k x h in omega arith
 
 eqb_agree : (i j m n : ℕ) → (i ≡ j → m ≡ n) → (m ≡ n → i ≡ j) → eqb i j ≡ eqb m n
 eqb_agree i j m n to back = go (cases_eq m n)

@@ -71,6 +71,17 @@ module _ (s : State) (h : Sound s) where
   pub waiting_within : AllByRecursion (λ (e : Entry ℕ). e.load < 12) s.waiting
   waiting_within = all_mono (λ (e : Entry ℕ). is_held (slot_at s e.load) ≡ true) (λ e. e.load < 12) (λ e i. omega (arith, held_within s.slots e.load i, h.twelve)) s.waiting h.waiting_held
 
+  -- so at most twelve triggers wait
+  pub waiting_few : length s.waiting ≤ 12
+  waiting_few =
+      let of : Entry ℕ → ℕ = λ e. self e.load in
+      let distinct : Distinct (map of s.waiting) =
+      apart_distinct self s.waiting (λ d e i q. eqb-false e.load d.load i (sym q))
+      h.one_trigger_each in
+      let below : AllByRecursion (λ n. n < 12) (map of s.waiting) =
+      all_loads self (λ e. e.load < 12) (λ n. n < 12) (λ e i. i) s.waiting waiting_within in
+      omega (arith, pigeons 12 (map of s.waiting) distinct below, length-map s.waiting of)
+
   pub waiting_room : (k : ℕ) → k < 12 → length (undone k s) ≤ 11
   waiting_room k lt =
       let p : Entry ℕ → Bool = λ e. not (eqb e.load k) in
@@ -116,6 +127,14 @@ module _ (s : State) (h : Sound s) where
 
   places_within : (ps : List (Entry (ℕ × ℕ))) → AllByRecursion There ps → AllByRecursion (λ n. n < 12) (map (λ (e : Entry (ℕ × ℕ)). seat s.slots e.load) ps)
   places_within ps i = all_loads (seat s.slots) There (λ n. n < 12) (λ e t. omega (arith, (seated s.slots e.load t).0, h.twelve)) ps i
+
+  -- at most twelve category places are kept
+  pub places_few : length s.places ≤ 12
+  places_few =
+      let of : Entry (ℕ × ℕ) → ℕ = λ e. seat s.slots e.load in
+      let distinct = places_distinct s.places h.places_held h.one_place_each in
+      let below = places_within s.places h.places_held in
+      omega (arith, pigeons 12 (map of s.places) distinct below, length-map s.places of)
 
   -- any entries but those of a number leave room for one of that number
   pub places_room : (p : Entry (ℕ × ℕ) → Bool) (n : ℕ) → any (numbered n) s.slots ≡ true → ((e : Entry (ℕ × ℕ)) → p e ≡ true → eqb e.load n ≡ false) → length (filter p s.places) ≤ 11
