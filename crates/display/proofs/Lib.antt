@@ -1,3 +1,4 @@
+mod Copied
 mod Entries
 mod Heads
 mod Multiples
