@@ -1,2 +1,3 @@
 mod Listed
+mod Spelled
 mod Back

@@ -25,7 +25,7 @@ pub record ExamplesStand : Type 0 where
   pub left_over : Reads (0x20 ∷ 0x00 ∷ 0x20 ∷ []) (Ok (time []) ∷ Err malformed ∷ [])
   -- a malformed record asks for the card alone
   pub sent : calls_from (Ok (time []) ∷ Err malformed ∷ []) ≡ time [] ∷ card ∷ card ∷ []
-  pub told : lines_from 1 (Ok (time []) ∷ Err malformed ∷ []) (counted 1 ∷ shows (Some (record { accession = 5; since = 9; length = 3 })) ∷ shows None ∷ []) ≡ record { number = 1; refusal = None; card = Some (record { accession = 5; since = 9; length = 3 }) } ∷ record { number = 2; refusal = Some malformed; card = None } ∷ []
+  pub told : lines_from 1 (Ok (time []) ∷ Err malformed ∷ []) (counted 1 ∷ shows (Some (record { accession = 5; since = 9; length = 3 })) ∷ shows None ∷ []) ≡ record { number = 1; refusal = 0; accession = 5; since = 9 } ∷ record { number = 2; refusal = 19; accession = 0; since = 0 } ∷ []
   -- as text: 4 0 1 5184000001016, and 2 19 0 0 behind a malformed record without a card
-  pub printed : line_text (record { number = 4; refusal = None; card = Some (record { accession = 1; since = 5184000001016; length = 3 }) }) ≡ 0x34 ∷ 0x20 ∷ 0x30 ∷ 0x20 ∷ 0x31 ∷ 0x20 ∷ 0x35 ∷ 0x31 ∷ 0x38 ∷ 0x34 ∷ 0x30 ∷ 0x30 ∷ 0x30 ∷ 0x30 ∷ 0x30 ∷ 0x31 ∷ 0x30 ∷ 0x31 ∷ 0x36 ∷ []
-  pub printed_refused : line_text (record { number = 2; refusal = Some malformed; card = None }) ≡ 0x32 ∷ 0x20 ∷ 0x31 ∷ 0x39 ∷ 0x20 ∷ 0x30 ∷ 0x20 ∷ 0x30 ∷ []
+  pub printed : line_text (record { number = 4; refusal = 0; accession = 1; since = 5184000001016 }) ≡ 0x34 ∷ 0x20 ∷ 0x30 ∷ 0x20 ∷ 0x31 ∷ 0x20 ∷ 0x35 ∷ 0x31 ∷ 0x38 ∷ 0x34 ∷ 0x30 ∷ 0x30 ∷ 0x30 ∷ 0x30 ∷ 0x30 ∷ 0x31 ∷ 0x30 ∷ 0x31 ∷ 0x36 ∷ []
+  pub printed_refused : line_text (record { number = 2; refusal = 19; accession = 0; since = 0 }) ≡ 0x32 ∷ 0x20 ∷ 0x31 ∷ 0x39 ∷ 0x20 ∷ 0x30 ∷ 0x20 ∷ 0x30 ∷ []

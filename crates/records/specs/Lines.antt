@@ -4,6 +4,7 @@ use Rattle.std.specs.Borrow.{Bor}
 use Rattle.calls.specs.Plain.{reply_of, fault_of}
 use Rattle.calls.specs.declared.Reply as plain
 use Rattle.display.specs.declared.cards.CardNumbers.{CardNumbers}
+use Rattle.refusal.specs.Numbers.{number_of}
 use Rattle.refusal.specs.declared.Fault.{Fault}
 use Rattle.rules.specs.Calls.{Call, Reply, answered, passed_over, counted, refused, found, placed, bytes, shows, byte, sized}
 use Rattle.std.specs.Option.{option_map}
@@ -22,9 +23,19 @@ card_in (shows c) = c
 card_in (byte b) = None
 card_in (sized n) = None
 
+-- the number of a refusal, or 0
+abbrev pub number_or_0 : Option Fault → ℕ
+number_or_0 None = 0
+number_or_0 (Some e) = number_of e.cause
+
+-- a line with a card's accession number and the moment since when it shows, or 0 and 0
+abbrev pub line_with : ℕ → Option Fault → Option CardNumbers → Line
+line_with n refusal None = record { number = n; refusal = number_or_0 refusal; accession = 0; since = 0 }
+line_with n refusal (Some c) = record { number = n; refusal = number_or_0 refusal; accession = c.accession; since = c.since }
+
 -- the line of record n, with its refusal and the reply that tells the card
 abbrev pub line_of : ℕ → Option Fault → Reply → Line
-line_of n refusal r = record { number = n; refusal = refusal; card = card_in r }
+line_of n refusal r = line_with n refusal (card_in r)
 
 -- a line with the card that the first reply tells, and the replies behind it
 abbrev pub with_card : ℕ → Option Fault → List Reply → Option (Line × List Reply)

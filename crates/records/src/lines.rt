@@ -30,10 +30,13 @@ fn with_card<'r>(
     ensures { seen_told result ≡ with_card number refusal (map reply_of replies.now) }
 {
     let (first, rest) = replies.split_first()?;
+    let refusal = refusal.map_or(0, |fault| fault.number());
+    let (accession, since) = card_in(first).map_or((0, 0), |card| (card.accession, card.since));
     let line = Line {
         number,
         refusal,
-        card: card_in(first),
+        accession,
+        since,
     };
     Some((line, rest))
 }
