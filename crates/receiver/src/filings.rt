@@ -8,10 +8,10 @@ ghost use Rattle.slots.specs.Segments.{after_segment, complete};
 ghost use Rattle.slots.specs.Slides.{arriving};
 
 use crate::parts::Parts;
+use crate::sieves::Called;
 use slots::indices::SlotIndex;
 use slots::progress::Segment;
 use slots::records::{Arrival, Event};
-use slots::sought::Named;
 
 // What a segment that is received comes to: it was there before, it is a part of the object with this number, or with it
 // the body is whole and its slide is held in that slot.
@@ -34,7 +34,7 @@ impl Parts {
         let _ = progress.take(segment);
         if progress.is_complete() {
             let name = self.name_at(k);
-            self.vacate(&Named(name.label()));
+            self.vacate(&Called(name));
             self.slots.on(k.get(), Event::Segment(segment));
             return Received::Whole(k, arrival);
         }

@@ -13,6 +13,18 @@ use slots::indices::SlotIndex;
 use slots::records::{Slot, Slots, State};
 use slots::sought::{Numbered, SlotTest};
 
+// It holds the slide of this name, which is kept.
+#[derive(Drop)]
+pub(crate) struct Called(pub(crate) Name);
+
+impl SlotTest for Called {
+    ghost test = { λ t x. named (name_of t.0) x };
+
+    fn passes(&self, slot: &Slot) -> bool {
+        matches!(slot.state, State::Held(_) if slot.name.equals(&self.0))
+    }
+}
+
 // It passes the test and holds the slide with this accession number.
 #[derive(Drop)]
 pub(crate) struct AlsoNumbered<'a, T> {

@@ -25,7 +25,7 @@ invariant_of-self c =
     let lt : k < length s.slots = omega (arith, p.slots.twelve, c.args.k.within, length-map p.slots.records seen) in
     let v : State = state_of c.vacate.new.self in
     let whole : complete (after_segment o.progress u) ≡ true = sym (c.if-is_complete.ensures ∙ ap complete c.take.ensures.after) in
-    let there = held_by s k o u c.requires lt v (all_seen c.on.new.self) (c.vacate.ensures ∙ ap (λ n. vacate (named n) s) (c.label.ensures ∙ c.name_at-name.ensures)) whole (c.on.ensures.seen ∙ ap (λ j. set v.slots j (moved (slides.segment u) (get_or v.slots j free))) c.get.ensures.0) in
+    let there = held_by s k o u c.requires lt v (all_seen c.on.new.self) (c.vacate.ensures ∙ ap (λ n. vacate (named n) s) c.name_at-name.ensures) whole (c.on.ensures.seen ∙ ap (λ j. set v.slots j (moved (slides.segment u) (get_or v.slots j free))) c.get.ensures.0) in
     record { sound = kept_sound _ _ there (sound_next s k o u c.requires lt (sound_of p)) }
 
 pub returns-then-is_complete-clause-state : goal.returns-then-is_complete-clause-state
@@ -38,7 +38,7 @@ returns-then-is_complete-clause-state c =
     let lt : k < length s.slots = omega (arith, p.slots.twelve, c.args.k.within, length-map p.slots.records seen) in
     let v : State = state_of c.vacate.new.self in
     let whole : complete (after_segment o.progress u) ≡ true = sym (c.if-is_complete.ensures ∙ ap complete c.take.ensures.after) in
-    let there = held_by s k o u c.requires lt v (all_seen c.on.new.self) (c.vacate.ensures ∙ ap (λ n. vacate (named n) s) (c.label.ensures ∙ c.name_at-name.ensures)) whole (c.on.ensures.seen ∙ ap (λ j. set v.slots j (moved (slides.segment u) (get_or v.slots j free))) c.get.ensures.0) in
+    let there = held_by s k o u c.requires lt v (all_seen c.on.new.self) (c.vacate.ensures ∙ ap (λ n. vacate (named n) s) c.name_at-name.ensures) whole (c.on.ensures.seen ∙ ap (λ j. set v.slots j (moved (slides.segment u) (get_or v.slots j free))) c.get.ensures.0) in
     there ∙ sym (cond-true (complete (after_segment o.progress u)) (put k (held (slide_of (more o u))) (vacate (named o.image.name) (put k (arriving (more o u)) s))) (put k (arriving (more o u)) s) whole)
 
 pub returns-then-is_complete-clause-holds : goal.returns-then-is_complete-clause-holds
@@ -51,7 +51,7 @@ returns-then-is_complete-clause-holds c =
     let lt : k < length s.slots = omega (arith, p.slots.twelve, c.args.k.within, length-map p.slots.records seen) in
     let v : State = state_of c.vacate.new.self in
     let whole : complete (after_segment o.progress u) ≡ true = sym (c.if-is_complete.ensures ∙ ap complete c.take.ensures.after) in
-    let there = held_by s k o u c.requires lt v (all_seen c.on.new.self) (c.vacate.ensures ∙ ap (λ n. vacate (named n) s) (c.label.ensures ∙ c.name_at-name.ensures)) whole (c.on.ensures.seen ∙ ap (λ j. set v.slots j (moved (slides.segment u) (get_or v.slots j free))) c.get.ensures.0) in
+    let there = held_by s k o u c.requires lt v (all_seen c.on.new.self) (c.vacate.ensures ∙ ap (λ n. vacate (named n) s) c.name_at-name.ensures) whole (c.on.ensures.seen ∙ ap (λ j. set v.slots j (moved (slides.segment u) (get_or v.slots j free))) c.get.ensures.0) in
     let f : State = put k (held (slide_of (more o u))) (vacate (named o.image.name) (put k (arriving (more o u)) s)) in
     let j = slot_next s k o u c.requires lt (sound_of p) in
     (ap (λ (x : State). any (numbered o.number) x.slots) there ∙ (ap (λ n. any (numbered n) f.slots) (sym (ap number_in j)) ∙ held_number f k (slide_of (more o u)) j), ap (λ (x : State). is_held (slot_at x k)) there ∙ ap is_held j)
