@@ -22,14 +22,14 @@ module _ {K : Type 0} (cmp : K → K → Ordering) where
       (λ _. ascending_kept p xs up.1)
 
   -- in front of all that are above it an entry comes first
-  shelved_first :
+  pub shelved_first :
       (e : Entry K) (xs : List (Entry K)) → AllAbove cmp e.key xs → shelved cmp e xs ≡ e ∷ xs
   shelved_first e [] h = refl
   shelved_first e (x ∷ xs) h =
       cond-true (above cmp e.key x) (e ∷ x ∷ xs) (x ∷ shelved cmp e xs) h.0
 
   -- behind one that is not above it an entry comes later
-  shelved_later :
+  pub shelved_later :
       (e x : Entry K) (xs : List (Entry K)) → above cmp e.key x ≡ false →
       shelved cmp e (x ∷ xs) ≡ x ∷ shelved cmp e xs
   shelved_later e x xs t =
