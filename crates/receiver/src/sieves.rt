@@ -13,7 +13,8 @@ use slots::indices::SlotIndex;
 use slots::records::{Slot, Slots, State};
 use slots::sought::{Numbered, SlotTest};
 
-// It holds the slide of this name, which is kept.
+// It holds the slide of this name, which is kept: a kept name is compared with kept names by `Name::equals`, while `Named` takes
+// a label.
 #[derive(Drop)]
 pub(crate) struct Called(pub(crate) Name);
 

@@ -12,6 +12,8 @@ pub line_spelled : (l : Line) (a b c d : List ℕ)
     → d ≡ decimal l.number ++ 32 ∷ c
     → d ≡ line_text l ++ 10 ∷ []
 line_spelled l a b c d since accession refusal number =
-    number
-    ∙ ap (λ (xs : List ℕ). decimal l.number ++ 32 ∷ xs) (refusal ∙ ap (λ (xs : List ℕ). decimal l.refusal ++ 32 ∷ xs) (accession ∙ ap (λ (xs : List ℕ). decimal l.accession ++ 32 ∷ xs) since))
-    ∙ simp append_assoc refl
+    let third : b ≡ decimal l.accession ++ 32 ∷ (decimal l.since ++ 10 ∷ []) =
+    accession ∙ ap (λ (xs : List ℕ). decimal l.accession ++ 32 ∷ xs) since in
+    let second : c ≡ decimal l.refusal ++ 32 ∷ (decimal l.accession ++ 32 ∷ (decimal l.since ++ 10 ∷ [])) =
+    refusal ∙ ap (λ (xs : List ℕ). decimal l.refusal ++ 32 ∷ xs) third in
+    number ∙ ap (λ (xs : List ℕ). decimal l.number ++ 32 ∷ xs) second ∙ simp append_assoc refl

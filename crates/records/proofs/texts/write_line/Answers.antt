@@ -12,7 +12,9 @@ returns-clause-written c =
     (drop c.write_field-at-2.result c.write_field-at-2.new.text)
     (drop c.write_field-at-3.result c.write_field-at-3.new.text)
     (drop c.write_field.result c.write_field.new.text)
-    (c.write_field-at.ensures.written ∙ ap (λ (xs : List ℕ). decimal c.args.line.now.since ++ 10 ∷ xs) (drop_all 84 c.args.text.now (search rules)))
+    (c.write_field-at.ensures.written
+    ∙ ap (λ (xs : List ℕ). decimal c.args.line.now.since ++ 10 ∷ xs)
+    (drop_all 84 c.args.text.now (search rules)))
     (search rules)
     (search rules)
     (search rules)
